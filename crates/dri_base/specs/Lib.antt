@@ -1,0 +1,5 @@
+pub mod Planes
+pub mod States
+pub mod Coverage
+pub mod Texels
+pub mod Fragments
