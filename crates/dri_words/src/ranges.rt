@@ -1,9 +1,10 @@
-ghost use Rattle.std.specs.Prelude.{◌≡◌};
+ghost use Rattle.std.specs.Prelude.{◌≡◌, ◌≤◌, ◌≤ℤ◌, IfSome};
 ghost use Rattle.dri_words.specs.Ranges.{signed_within, within};
 
 /// The number, where it is from `low` to `high`.
 pub fn within(low: u32, high: u32, number: i64) -> Option<u32>
-    ensures { result ≡ within low high number }
+    ensures value { result ≡ within low high number }
+    ensures bound { IfSome result (λ n. (low ≤ n) × (n ≤ high)) }
 {
     if i64::from(low) <= number && number <= i64::from(high) {
         Some(number as u32)
@@ -14,7 +15,8 @@ pub fn within(low: u32, high: u32, number: i64) -> Option<u32>
 
 /// The number, of either sign, where it is from `low` to `high`.
 pub fn signed_within(low: i32, high: i32, number: i64) -> Option<i32>
-    ensures { result ≡ signed_within low high number }
+    ensures value { result ≡ signed_within low high number }
+    ensures bound { IfSome result (λ n. (low ≤ℤ n) × (n ≤ℤ high)) }
 {
     if i64::from(low) <= number && number <= i64::from(high) {
         Some(number as i32)
