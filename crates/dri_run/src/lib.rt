@@ -5,6 +5,9 @@ mod line;
 mod notice;
 mod ppm;
 mod reading;
+mod screen;
 mod status;
+mod top;
 
 pub use status::Status;
+pub use top::drive;
