@@ -1,1 +1,3 @@
 pub mod PlaneLists
+pub mod NumberMarks
+pub mod WindowRanges
