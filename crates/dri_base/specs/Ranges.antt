@@ -1,17 +1,17 @@
 -- Which scenes have a text: every range, limit and rule of the scene text.
 use Rattle.std.specs.Prelude.{◌≡◌, ◌≢◌, ◌≤◌, ◌<◌, ◌≤ℤ◌, ℕ, ◌+◌, ◌*◌, ◌^◌, ◌⊎◌, ℤ, pos, neg_ℤ, List, [], ◌∷◌, length, map, sum_by, AllPairs, All, Contains, ◌==◌, if◌then◌else◌, slice_get, Option, Some, None}
 use Rattle.std.specs.List.{filter_map}
-use Rattle.std.specs.List.Sorted.{IsStrictlyIncreasing}
 use Rattle.dri_base.specs.declared.command.Change.{Change}
 use Rattle.dri_base.specs.declared.command.Change.TheVariants as Change_is
 use Rattle.dri_base.specs.declared.command.Command.{Command}
-use Rattle.dri_base.specs.declared.command.Command.TheVariants.{Set, Clear, Triangle, Swap, Yield, Die}
+use Rattle.dri_base.specs.declared.command.Command.TheVariants.{Set, Clear, Triangle as DrawTriangle, Swap, Yield, Die}
 use Rattle.dri_base.specs.declared.command.Item.{Item}
 use Rattle.dri_base.specs.declared.command.Item.TheVariants.{Turn, Kill}
 use Rattle.dri_base.specs.declared.scene.ClientScript.{ClientScript}
 use Rattle.dri_base.specs.declared.scene.Scene.{Scene}
 use Rattle.dri_base.specs.declared.scene.Window.{Window}
 use Rattle.dri_base.specs.declared.shape.ClipRect.{ClipRect}
+use Rattle.dri_base.specs.declared.shape.Triangle.{Triangle}
 use Rattle.dri_base.specs.declared.shape.Vertex.{Vertex}
 use Rattle.dri_base.specs.declared.state.Setting.{Setting}
 use Rattle.dri_base.specs.declared.state.Setting.TheVariants as Setting_is
@@ -72,7 +72,7 @@ texture_numbers textures = map (λ t. t.number) textures
 -- each texture is in range, by rising number
 pub record TexturesInRange (heap : ℕ) (textures : List Texture) : Type 0 where
   pub each : All (TextureInRange heap) textures
-  pub rising : IsStrictlyIncreasing (texture_numbers textures)
+  pub rising : AllPairs ◌<◌ (texture_numbers textures)
 
 -- a corner's place in sixteenths of a pixel
 abbrev pub IsVertexPlace : ℤ → Type 0
@@ -81,6 +81,10 @@ IsVertexPlace n = (neg_ℤ (pos 32768) ≤ℤ n) × (n ≤ℤ pos 32767)
 -- the ranges of a triangle's corner
 abbrev pub VertexInRange : Vertex → Type 0
 VertexInRange v = IsVertexPlace v.x × IsVertexPlace v.y
+
+-- the ranges of a triangle line
+abbrev pub TriangleInRange : Triangle → Type 0
+TriangleInRange t = VertexInRange t.a × VertexInRange t.b × VertexInRange t.c
 
 -- the ranges of a scissor
 pub record ScissorInRange (r : ClipRect) : Type 0 where
@@ -106,15 +110,19 @@ SettingInRange textures (Setting_is.Scissor (Some r)) = ScissorInRange r
 abbrev pub CommandInRange : List ℕ → Command → Type 0
 CommandInRange textures (Set setting) = SettingInRange textures setting
 CommandInRange textures (Clear colour depth) = Unit {0}
-CommandInRange textures (Triangle t) = VertexInRange t.a × VertexInRange t.b × VertexInRange t.c
+CommandInRange textures (DrawTriangle t) = TriangleInRange t
 CommandInRange textures Swap = Unit {0}
 CommandInRange textures Yield = Unit {0}
 CommandInRange textures Die = Unit {0}
 
--- each command is in range, and none but the last is a die
+-- no command but the last is a die
+abbrev pub DiesLast : List Command → Type 0
+DiesLast commands = (k : ℕ) → k + 1 < length commands → slice_get commands k ≢ Some Die
+
+-- each command is in range, and after a die comes none
 pub record CommandsInRange (textures : List ℕ) (commands : List Command) : Type 0 where
   pub each : All (CommandInRange textures) commands
-  pub alive : (k : ℕ) → k + 1 < length commands → slice_get commands k ≢ Some Die
+  pub last : DiesLast commands
 
 -- the rules of a client block: it owns the window that it draws on
 pub record ClientInRange (windows : List Window) (heap : ℕ) (c : ClientScript) : Type 0 where
@@ -131,11 +139,10 @@ client_numbers clients = map (λ c. c.number) clients
 abbrev pub command_count : List ClientScript → ℕ
 command_count clients = sum_by (λ c. length c.commands) clients
 
--- each client is in range, by rising number, and together they have at most 100,000 commands
+-- each client is in range, by rising number
 pub record ClientsInRange (windows : List Window) (heap : ℕ) (clients : List ClientScript) : Type 0 where
   pub each : All (ClientInRange windows heap) clients
-  pub rising : IsStrictlyIncreasing (client_numbers clients)
-  pub few : command_count clients ≤ 100000
+  pub rising : AllPairs ◌<◌ (client_numbers clients)
 
 -- the ranges of a change, where there are windows of these numbers
 abbrev pub ChangeInRange : List ℕ → Change → Type 0
@@ -175,13 +182,14 @@ pub record TurnsInRange (clients : List ℕ) (items : List Item) : Type 0 where
 abbrev pub heap_bytes : Scene → ℕ
 heap_bytes s = s.regions * s.region_size
 
--- the scene has a text that isn't refused
+-- the scene has a text that isn't refused; in all clients together there are at most 100,000 commands
 pub record InRange (s : Scene) : Type 0 where
   pub wide : IsSide s.width
   pub high : IsSide s.height
   pub regioned : IsWithin 1 64 s.regions
   pub sized : IsRegionSize s.region_size
   pub windowed : WindowsInRange s.windows
-  pub clients : ClientsInRange s.windows (heap_bytes s) s.clients
+  pub scripted : ClientsInRange s.windows (heap_bytes s) s.clients
+  pub few : command_count s.clients ≤ 100000
   pub changed : ChangesInRange (window_numbers s.windows) s.changes
   pub scheduled : TurnsInRange (client_numbers s.clients) s.turns
