@@ -1,1 +1,6 @@
 pub mod PlaneLists
+pub mod NumberMarks
+pub mod WindowRanges
+pub mod Rising
+pub mod Victims
+pub mod RegionSizes
