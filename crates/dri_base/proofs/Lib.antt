@@ -4,3 +4,4 @@ pub mod WindowRanges
 pub mod Rising
 pub mod Victims
 pub mod RegionSizes
+pub mod RangeLemmas
