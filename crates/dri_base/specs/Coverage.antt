@@ -1,5 +1,5 @@
 -- Which pixels a triangle covers, and its quantities there.
-use Rattle.std.specs.Prelude.{ℕ, ◌/◌, Bool, not, ◌&&◌, ◌||◌, if◌then◌else◌, ℤ, pos, ◌+ℤ◌, ◌-ℤ◌, ◌*ℤ◌, int_lt, nat_abs}
+use Rattle.std.specs.Prelude.{◌≡◌, ◌≤ℤ◌, ◌<ℤ◌, true, ℕ, ◌/◌, Bool, not, ◌&&◌, ◌||◌, if◌then◌else◌, ℤ, pos, ◌+ℤ◌, ◌-ℤ◌, ◌*ℤ◌, int_lt, nat_abs}
 use Rattle.std.specs.Ordering.{int_eq}
 pub use Rattle.dri_base.specs.declared.shape.Point.{Point}
 pub use Rattle.dri_base.specs.declared.shape.Vertex.{Vertex}
@@ -49,3 +49,9 @@ weighed t value p =
 -- a quantity at a covered centre: the floor of its weighed sum by twice the area
 abbrev pub quantity : Triangle → (Vertex → ℕ) → ℤ → ℤ → ℕ
 quantity t value x y = nat_abs (weighed (turned t) value (centre x y)) / nat_abs (area t)
+
+-- law: at a covered centre the weighed sum is the quantity times twice the area, and less than an area more
+abbrev pub QuantityIsFloor : Type 0
+QuantityIsFloor =
+    (t : Triangle) (value : Vertex → ℕ) (x y : ℤ) → covers t x y ≡ true →
+        (pos 0 <ℤ area (turned t)) × ((pos (quantity t value x y) *ℤ area (turned t)) ≤ℤ weighed (turned t) value (centre x y)) × (weighed (turned t) value (centre x y) <ℤ ((pos (quantity t value x y) +ℤ pos 1) *ℤ area (turned t)))

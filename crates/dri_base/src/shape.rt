@@ -1,6 +1,8 @@
 //! Points, rectangles and triangles. Rectangles are half open: a rectangle holds the places with
 //! `x1 <= x < x2` and `y1 <= y < y2`. x grows to the right and y downwards.
 
+ghost use Rattle.dri_base.specs.Coverage.{QuantityIsFloor};
+
 use crate::Rgba;
 
 /// A place of the plane.
@@ -46,4 +48,11 @@ pub struct Triangle {
     pub a: Vertex,
     pub b: Vertex,
     pub c: Vertex,
+}
+
+/// A quantity at a covered centre is the floor of its weighed sum by twice the area, where the corners run so that the
+/// area is positive. It does nothing: its contract is the law.
+pub fn quantity_is_floor()
+    ensures { QuantityIsFloor }
+{
 }
