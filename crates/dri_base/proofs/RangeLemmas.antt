@@ -20,35 +20,39 @@ script_meets : (P : ClientScript → Type 0) (ps : List ClientScript) (c : ℕ) 
 script_meets P [] c all none = none
 script_meets P (p ∷ ps) c all none =
     elim (eqb_tells p.number c) as (λ _. P (script_in (p ∷ ps) c)) [
-        inl same ↦ rw same.0 (All-head P p ps all)
-      | inr other ↦ rw other.0 (script_meets P ps c (All-tail P p ps all) none) ]
+      | inl same ↦ rw same.0 (All-head P p ps all)
+      | inr other ↦ rw other.0 (script_meets P ps c (All-tail P p ps all) none)
+    ]
 
 -- the script of client c has its number
 pub number_of_script : (ps : List ClientScript) (c : ℕ) → (script_in ps c).number ≡ c
 number_of_script [] c = refl
 number_of_script (p ∷ ps) c =
     elim (eqb_tells p.number c) as (λ _. (script_in (p ∷ ps) c).number ≡ c) [
-        inl same ↦ rw same.0 same.1
-      | inr other ↦ rw other.0 (number_of_script ps c) ]
+      | inl same ↦ rw same.0 same.1
+      | inr other ↦ rw other.0 (number_of_script ps c)
+    ]
 
 -- a window that has an owner has a number from 1 to 64
 pub owned_window : (ws : List Window) (n owner : ℕ) → All WindowInRange ws → owner_of ws n ≡ Some owner → IsWithin 1 64 n
 owned_window [] n owner all owned = absurd (cc)
 owned_window (w ∷ ws) n owner all owned =
     elim (eqb_tells w.number n) as (λ _. IsWithin 1 64 n) [
-        inl same ↦ subst (IsWithin 1 64) same.1 (All-head WindowInRange w ws all).numbered
-      | inr other ↦ owned_window ws n owner (All-tail WindowInRange w ws all) (rw other.0 at owned) ]
+      | inl same ↦ subst (IsWithin 1 64) same.1 (All-head WindowInRange w ws all).numbered
+      | inr other ↦ owned_window ws n owner (All-tail WindowInRange w ws all) (rw other.0 at owned)
+    ]
 
 -- what holds of each texture holds of the one with this number
 texture_meets : (P : Texture → Type 0) (ps : List Texture) (t : ℕ) (p : Texture) → All P ps → texture_in ps t ≡ Some p → P p
 texture_meets P [] t p all found = absurd (cc)
 texture_meets P (q ∷ qs) t p all found =
     elim (eqb_tells q.number t) as (λ _. P p) [
-        inl same ↦ let is : q ≡ p = some_same q p (rw same.0 at found) in subst P is (All-head P q qs all)
-      | inr other ↦ texture_meets P qs t p (All-tail P q qs all) (rw other.0 at found) ]
+      | inl same ↦ let is : q ≡ p = some_same q p (rw same.0 at found) in subst P is (All-head P q qs all)
+      | inr other ↦ texture_meets P qs t p (All-tail P q qs all) (rw other.0 at found)
+    ]
   where
-  some_same : (a b : Texture) → Some a ≡ Some b → a ≡ b
-  some_same a b same = cc
+    some_same : (a b : Texture) → Some a ≡ Some b → a ≡ b
+    some_same a b same = cc
 
 regions_within : (size regions bytes : ℕ) → 0 < size → bytes ≤ regions * size → regions_for size bytes ≤ regions
 regions_within size regions bytes sized fits =
@@ -104,10 +108,11 @@ well_formed s range = record {
 } where
   apart : (c d : ℕ) → commands_of s c ≢ [] → commands_of s d ≢ [] → window_of s c ≡ window_of s d → c ≡ d
   apart c d some more same =
-    let first = owns_window s c range some in
-    let second = owns_window s d range more in
-    let owners : Some c ≡ Some d = sym first ∙ ap (owner_of s.windows) same ∙ second in
-    cc
+      let first = owns_window s c range some in
+      let second = owns_window s d range more in
+      let owners : Some c ≡ Some d = sym first ∙ ap (owner_of s.windows) same ∙ second in
+      cc
+
   heap : (c t : ℕ) (o : Option Texture) → texture_in (textures_of s c) t ≡ o → regions_needed s c t ≤ s.regions
   heap c t None found = rw found (regions_within s.region_size s.regions 0 (region_size_above s.region_size range.card.sized) (omega arith))
   heap c t (Some p) found = rw found (regions_within s.region_size s.regions (length p.bytes) (region_size_above s.region_size range.card.sized) (textures_in_range s c t p range found).fits)

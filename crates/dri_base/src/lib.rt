@@ -13,6 +13,8 @@ mod sequence;
 mod shape;
 mod state;
 mod steps;
+#[cfg(test)]
+mod tests;
 mod texture;
 
 pub use colour::{Pixel, Rgb, Rgba};
