@@ -1,0 +1,13 @@
+pub mod Examples
+pub mod Invariant
+pub mod Textures
+pub mod Laws
+pub mod Draws
+pub mod FrameNumbers
+pub mod Stood
+pub mod Cores
+pub mod CoreLaws
+pub mod Decide
+pub mod OneTurn
+pub mod Endings
+pub mod Scenery

@@ -1,0 +1,107 @@
+-- What a check of a journal counts.
+use Rattle.std.specs.List.{list_all}
+use Rattle.std.specs.Prelude.{Bool, List, None, Option, Some, [], false, if◌then◌else◌, is_none, length, not, true, ℕ, ◌&&◌, ◌+◌, ◌==◌, ◌∷◌}
+use Rattle.dri_base.specs.declared.command.Command.{Command}
+use Rattle.dri_base.specs.declared.command.Command.TheVariants.{Clear, Die, Set, Swap, Triangle, Yield}
+use Rattle.dri_base.specs.declared.journal.Entry.{Entry}
+use Rattle.dri_base.specs.declared.scene.Scene.{Scene}
+use Rattle.dri_meaning.specs.EntryTable.{after_entry}
+use Rattle.dri_meaning.specs.Phases.{is_done}
+use Rattle.dri_meaning.specs.Runs.{after}
+use Rattle.dri_meaning.specs.Scenes.{command_at, window_of}
+use Rattle.dri_meaning.specs.Worlds.{World, opening}
+use Rattle.dri_base.specs.declared.journal.Entry.TheVariants as Entry_is
+
+-- where a client's frame stands: it has no clear yet, or its last clear has stood, or a new stamp came after it
+pub data Standing : Type 0 where
+  NoClear : Standing
+  Stood : Standing
+  Cut : Standing
+
+-- what is counted so far
+pub record Tally : Type 0 where
+  -- the swaps run whose frame begins with a clear, and those of them that stood
+  pub frames : ℕ
+  pub stood : ℕ
+  -- by client
+  pub standing : ℕ → Standing
+
+-- what a command that its client runs makes of the client's frame
+abbrev pub standing_after : Option Command → Standing → Standing
+standing_after (Some (Clear colour depth)) old = Stood
+standing_after (Some Swap) old = NoClear
+standing_after (Some (Set setting)) old = old
+standing_after (Some (Triangle t)) old = old
+standing_after (Some Yield) old = old
+standing_after (Some Die) old = old
+standing_after None old = old
+
+-- what a new stamp makes of it
+abbrev pub cut_by : Bool → Standing → Standing
+cut_by true Stood = Cut
+cut_by true NoClear = NoClear
+cut_by true Cut = Cut
+cut_by false old = old
+
+-- a swap counts where its frame has a clear
+abbrev pub counts_frame : Option Command → Standing → ℕ
+counts_frame (Some Swap) NoClear = 0
+counts_frame (Some Swap) Stood = 1
+counts_frame (Some Swap) Cut = 1
+counts_frame (Some (Clear colour depth)) old = 0
+counts_frame (Some (Set setting)) old = 0
+counts_frame (Some (Triangle t)) old = 0
+counts_frame (Some Yield) old = 0
+counts_frame (Some Die) old = 0
+counts_frame None old = 0
+
+-- and as one that stood where its last clear has stood
+abbrev pub counts_stood : Option Command → Standing → ℕ
+counts_stood (Some Swap) Stood = 1
+counts_stood (Some Swap) NoClear = 0
+counts_stood (Some Swap) Cut = 0
+counts_stood (Some (Clear colour depth)) old = 0
+counts_stood (Some (Set setting)) old = 0
+counts_stood (Some (Triangle t)) old = 0
+counts_stood (Some Yield) old = 0
+counts_stood (Some Die) old = 0
+counts_stood None old = 0
+
+-- the tally after an entry that leads from one world to the next
+abbrev pub tally_run : Scene → Tally → ℕ → Option Command → Tally
+tally_run s t c command = record {
+  frames = t.frames + counts_frame command (t.standing c);
+  stood = t.stood + counts_stood command (t.standing c);
+  standing = λ d. if d == c then standing_after command (t.standing d) else t.standing d;
+}
+
+-- a new stamp of its window cuts a client's frame
+abbrev pub tally_stamps : Scene → World → World → Tally → Tally
+tally_stamps s old new t = record t { standing = λ d. cut_by (not (old.stamps (window_of s d) == new.stamps (window_of s d))) (t.standing d) }
+
+-- the tally after an entry
+abbrev pub tally_after : Scene → World → Entry → Tally → Tally
+tally_after s w (Entry_is.Run c i) t = tally_run s t c (command_at s c i)
+tally_after s w (Entry_is.Change i) t = tally_stamps s w (after_entry s w (Entry_is.Change i)) t
+tally_after s w (Entry_is.Gone c) t = tally_stamps s w (after_entry s w (Entry_is.Gone c)) t
+tally_after s w (Entry_is.Light c) t = t
+tally_after s w (Entry_is.Kernel c found) t = t
+tally_after s w (Entry_is.Stale c) t = t
+tally_after s w (Entry_is.Emit c groups) t = t
+tally_after s w (Entry_is.Place c u first count) t = t
+tally_after s w (Entry_is.Leave c) t = t
+tally_after s w (Entry_is.Info c) t = t
+
+-- the tally after these entries
+abbrev pub tally_from : Scene → World → Tally → List Entry → Tally
+tally_from s w t [] = t
+tally_from s w t (e ∷ es) = tally_from s (after_entry s w e) (tally_after s w e t) es
+
+-- the frames that a journal runs, and how many of them stood
+abbrev pub tally : Scene → List Entry → Tally
+tally s journal = tally_from s (opening s) (record { frames = 0; stood = 0; standing = λ c. NoClear }) journal
+
+-- nobody holds, every client is ended or dead, and all changes were made
+abbrev pub is_whole : Scene → List Entry → Bool
+is_whole s journal =
+    is_none (after s journal).holder && (list_all (λ p. is_done ((after s journal).client p.number).phase) s.clients && ((after s journal).made == length s.changes))

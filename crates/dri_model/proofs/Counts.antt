@@ -1,0 +1,26 @@
+-- Counting.
+use Rattle.std.proofs.Common.{◌≡◌, ◌<◌, ◌≤◌, ◌+◌, ℕ, zero, suc, Bool, true, false, arith, refl, sym, inl, inr}
+use Rattle.std.specs.Prelude.{◌⊎◌}
+use Rattle.std.proofs.lemmas.Bool.{true≢false, cases_eq, or_parts}
+use Rattle.dri_model.specs.Counting.{any_from}
+
+-- where none of the numbers has the property, each one lacks it
+pub none_from : (p : ℕ → Bool) (first n k : ℕ) → any_from p first n ≡ false → first ≤ k → k < first + n → p k ≡ false
+none_from p first zero k e le lt = absurd (omega arith)
+none_from p first (suc n) k e le lt = by_place (cases_eq k (first + n)) (none_from p first n k)
+  where
+    parts : (p (first + n) ≡ false) × (any_from p first n ≡ false)
+    parts = or_parts (p (first + n)) (any_from p first n) e
+
+    by_place : (k ≡ first + n) ⊎ (k ≡ first + n → ⊥) → (any_from p first n ≡ false → first ≤ k → k < first + n → p k ≡ false) → p k ≡ false
+    by_place (inl same) below = rw same parts.0
+    by_place (inr ne) below = below parts.1 le (omega arith)
+
+-- where some number has the property, one is there
+pub some_from : (p : ℕ → Bool) (first n : ℕ) → any_from p first n ≡ true → (k : ℕ) × (first ≤ k) × (k < first + n) × (p k ≡ true)
+some_from p first zero e = absurd (true≢false (sym e))
+some_from p first (suc n) e = by_last (p (first + n)) refl (some_from p first n)
+  where
+    by_last : (b : Bool) → p (first + n) ≡ b → (any_from p first n ≡ true → (k : ℕ) × (first ≤ k) × (k < first + n) × (p k ≡ true)) → (k : ℕ) × (first ≤ k) × (k < first + suc n) × (p k ≡ true)
+    by_last true h below = (first + n, omega arith, omega arith, h)
+    by_last false h below = let r = below (rw h at e) in (r.0, r.1, omega (arith, r.2), r.3)

@@ -1,0 +1,139 @@
+-- The stack of windows, from top to bottom.
+use Rattle.std.specs.Prelude.{ℕ, List, [], ◌∷◌, ◌++◌, map, filter, Bool, true, false, ◌&&◌, not, ◌==◌, nat_lt, nat_le, if◌then◌else◌, Option, Some, None, ℤ, pos, neg_ℤ, ◌+ℤ◌, int_lt, int_le}
+use Rattle.std.specs.Ordering.{int_eq}
+use Rattle.dri_base.specs.declared.colour.Rgb.{Rgb}
+use Rattle.dri_base.specs.declared.scene.Window.{Window}
+use Rattle.dri_base.specs.declared.command.Change.{Change}
+use Rattle.dri_base.specs.declared.command.Change.TheVariants.{Map, Unmap, Move, Resize, Raise, Lower}
+use Rattle.dri_model.specs.Counting.{all_below}
+
+-- the window's rectangle has the pixel
+abbrev pub has_pixel : Window → ℕ → ℕ → Bool
+has_pixel w x y =
+    (int_le w.x (pos x) && int_lt (pos x) (w.x +ℤ pos w.width)) && (int_le w.y (pos y) && int_lt (pos y) (w.y +ℤ pos w.height))
+
+-- the topmost mapped window at the pixel
+abbrev pub top : List Window → ℕ → ℕ → Option Window
+top [] x y = None
+top (w ∷ ws) x y = if w.mapped && has_pixel w x y then Some w else top ws x y
+
+-- it is window n
+abbrev pub is_window : ℕ → Option Window → Bool
+is_window n None = false
+is_window n (Some w) = w.number == n
+
+-- the screen pixels at which window n shows
+abbrev pub clips : ℕ → ℕ → List Window → ℕ → ℕ → ℕ → Bool
+clips width height ws n x y = nat_lt x width && (nat_lt y height && is_window n (top ws x y))
+
+-- the upper left corner of window n
+abbrev pub origin : List Window → ℕ → ℤ × ℤ
+origin [] n = (pos 0, pos 0)
+origin (w ∷ ws) n = if w.number == n then (w.x, w.y) else origin ws n
+
+-- the window with number n, on the board
+abbrev pub window_in : List Window → ℕ → Option Window
+window_in [] n = None
+window_in (w ∷ ws) n = if w.number == n then Some w else window_in ws n
+
+-- why the board refuses a change
+pub data Refusal : Type 0 where
+  NoWindow : Refusal
+  OutOfRange : Refusal
+  AlreadyMapped : Refusal
+  NotMapped : Refusal
+
+-- a window's corner may stand there
+abbrev pub is_corner : ℤ → Bool
+is_corner v = int_le (neg_ℤ (pos 1024)) v && int_le v (pos 1024)
+
+-- a window's side may be so long
+abbrev pub is_side : ℕ → Bool
+is_side n = nat_le 1 n && nat_le n 1024
+
+-- why a change of this window is refused: by its numbers first, then by what is mapped
+abbrev pub refused_at : Change → Window → Option Refusal
+refused_at (Map n) w = if w.mapped then Some AlreadyMapped else None
+refused_at (Unmap n) w = if w.mapped then None else Some NotMapped
+refused_at (Move n x y) w = if is_corner x && is_corner y then None else Some OutOfRange
+refused_at (Resize n width height) w = if is_side width && is_side height then None else Some OutOfRange
+refused_at (Raise n) w = None
+refused_at (Lower n) w = None
+
+-- the window that a change names
+abbrev pub named_by : Change → ℕ
+named_by (Map n) = n
+named_by (Unmap n) = n
+named_by (Move n x y) = n
+named_by (Resize n width height) = n
+named_by (Raise n) = n
+named_by (Lower n) = n
+
+-- a window that isn't on the board comes first
+abbrev pub refused_for : Change → Option Window → Option Refusal
+refused_for change None = Some NoWindow
+refused_for change (Some w) = refused_at change w
+
+-- why the board refuses the change, if it does
+abbrev pub refusal : Change → List Window → Option Refusal
+refusal change ws = refused_for change (window_in ws (named_by change))
+
+-- the named window, and no other, is altered
+abbrev pub altered : ℕ → (Window → Window) → List Window → List Window
+altered n f ws = map (λ w. if w.number == n then f w else w) ws
+
+-- the stack after a change that isn't refused
+abbrev pub changed : Change → List Window → List Window
+changed (Map n) ws = altered n (λ w. record w { mapped = true }) ws
+changed (Unmap n) ws = altered n (λ w. record w { mapped = false }) ws
+changed (Move n x y) ws = altered n (λ w. record w { x = x; y = y }) ws
+changed (Resize n width height) ws = altered n (λ w. record w { width = width; height = height }) ws
+changed (Raise n) ws = filter (λ w. w.number == n) ws ++ filter (λ w. not (w.number == n)) ws
+changed (Lower n) ws = filter (λ w. not (w.number == n)) ws ++ filter (λ w. w.number == n) ws
+
+-- the new stack, unless the change is refused
+abbrev pub unless_refused : Option Refusal → List Window → List Window → List Window
+unless_refused None old new = new
+unless_refused (Some why) old new = old
+
+-- the stack after a change; a refused one changes nothing
+abbrev pub stack_after : Change → List Window → List Window
+stack_after change ws = unless_refused (refusal change ws) ws (changed change ws)
+
+-- the window, unmapped where client c owns it
+abbrev pub unmapped : ℕ → Window → Window
+unmapped c w = if w.owner == c then record w { mapped = false } else w
+
+-- the stack after the death of client c: each window that it owns is unmapped
+abbrev pub without_owner : ℕ → List Window → List Window
+without_owner c ws = map (unmapped c) ws
+
+-- the two are one
+abbrev pub same_bool : Bool → Bool → Bool
+same_bool true b = b
+same_bool false b = not b
+
+-- the two sets have the same pixels of the screen
+abbrev pub same_set : ℕ → ℕ → (ℕ → ℕ → Bool) → (ℕ → ℕ → Bool) → Bool
+same_set width height f g = all_below (λ x. all_below (λ y. same_bool (f x y) (g x y)) height) width
+
+-- the two corners are one
+abbrev pub same_origin : ℤ × ℤ → ℤ × ℤ → Bool
+same_origin a b = int_eq a.0 b.0 && int_eq a.1 b.1
+
+-- the clip set or the origin of window n isn't as before
+abbrev pub is_touched : ℕ → ℕ → List Window → List Window → ℕ → Bool
+is_touched width height old new n =
+    not (same_set width height (clips width height old n) (clips width height new n) && same_origin (origin old n) (origin new n))
+
+-- what shows at a pixel that nobody has drawn: the topmost window's background, or the root colour
+abbrev pub ground_colour : Rgb → Option Window → Rgb
+ground_colour root None = root
+ground_colour root (Some w) = w.background
+
+-- the same window is topmost
+abbrev pub same_top : Option Window → Option Window → Bool
+same_top None None = true
+same_top (Some a) (Some b) = a.number == b.number
+same_top None (Some b) = false
+same_top (Some a) None = false
