@@ -1,7 +1,6 @@
 -- An edge of a triangle as a linear function of the pixel.
 use Rattle.std.specs.Prelude.{ℕ, ℤ, pos, negsuc, ◌+ℤ◌, ◌-ℤ◌, ◌*ℤ◌, ◌≤ℤ◌, neg_ℤ, if◌then◌else◌}
 use Rattle.dri_base.specs.declared.shape.Point.{Point}
-use Rattle.dri_base.specs.declared.shape.Vertex.{Vertex}
 use Rattle.dri_base.specs.Coverage.{centre, edge, is_top_left}
 use Rattle.dri_raster.specs.declared.edge.Edge.{Edge}
 
@@ -9,18 +8,9 @@ use Rattle.dri_raster.specs.declared.edge.Edge.{Edge}
 abbrev pub IsWithin : ℕ → ℤ → Type 0
 IsWithin n z = (neg_ℤ (pos n) ≤ℤ z) × (z ≤ℤ pos n)
 
--- a vertex's coordinate, in sixteenths of a pixel
-abbrev pub IsSixteenth : ℤ → Type 0
-IsSixteenth n = (negsuc 32767 ≤ℤ n) × (n ≤ℤ pos 32767)
-
--- a vertex whose coordinates are -32,768 to 32,767
-pub record IsInRange (v : Vertex) : Type 0 where
-  pub x : IsSixteenth v.x
-  pub y : IsSixteenth v.y
-
 -- a column or a row that is asked for
 abbrev pub IsPixel : ℤ → Type 0
-IsPixel n = (negsuc 4095 ≤ℤ n) × (n ≤ℤ pos 4096)
+IsPixel n = (neg_ℤ (pos 4096) ≤ℤ n) × (n ≤ℤ pos 4096)
 
 -- the edge's distance at the centre of pixel (x, y)
 abbrev pub distance : Edge → ℤ → ℤ → ℤ

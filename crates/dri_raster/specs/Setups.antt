@@ -3,11 +3,11 @@ use Rattle.std.specs.Prelude.{◌≡◌, ◌≢◌, pos, unsigned_abs}
 use Rattle.dri_base.specs.Coverage.{area, corner, turned}
 use Rattle.dri_raster.specs.declared.setup.Setup.TheInside.{Inside}
 use Rattle.dri_raster.specs.Edges.{IsSmallEdge, edge_between}
-use Rattle.dri_raster.specs.Triangles.{AreInRange}
+use Rattle.dri_base.specs.Ranges.{TriangleInRange}
 
 -- the triangle, its corners turned to go round the inner side, twice its area and its three edges
 pub record IsSetUp (s : Inside) : Type 0 where
-  pub in_range : AreInRange s.triangle
+  pub in_range : TriangleInRange s.triangle
   pub has_area : area s.triangle ≢ pos 0
   pub turned : s.turned ≡ turned s.triangle
   pub area : s.area ≡ unsigned_abs (area s.triangle)

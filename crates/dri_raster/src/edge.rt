@@ -4,7 +4,8 @@
 
 ghost use Rattle.std.specs.Prelude.{◌≡◌, pos, ◌+ℤ◌, ◌-ℤ◌, ◌*ℤ◌, int_le};
 ghost use Rattle.dri_base.specs.Coverage.{corner, is_top_left};
-ghost use Rattle.dri_raster.specs.Edges.{IsWithin, IsSixteenth, IsInRange, IsPixel, IsSmallEdge, distance, edge_between};
+ghost use Rattle.dri_base.specs.Ranges.{IsVertexPlace, VertexInRange};
+ghost use Rattle.dri_raster.specs.Edges.{IsWithin, IsPixel, IsSmallEdge, distance, edge_between};
 
 use dri_base::Vertex;
 
@@ -21,8 +22,8 @@ pub struct Edge {
 impl Edge {
     /// The edge between two corners whose coordinates are -32,768 to 32,767.
     pub fn new(from: &Vertex, to: &Vertex) -> Edge
-        requires from { IsInRange from.now }
-        requires to { IsInRange to.now }
+        requires from { VertexInRange from.now }
+        requires to { VertexInRange to.now }
         ensures value { result ≡ edge_between (corner from.now) (corner to.now) }
         ensures small { IsSmallEdge result }
     {
@@ -65,8 +66,8 @@ fn is_top_left(from: &Vertex, to: &Vertex) -> bool
 
 /// The first of two coordinates less the second.
 pub fn difference(a: i32, b: i32) -> i64
-    requires a { IsSixteenth a }
-    requires b { IsSixteenth b }
+    requires a { IsVertexPlace a }
+    requires b { IsVertexPlace b }
     ensures value { result ≡ a -ℤ b }
     ensures small { IsWithin 65535 result }
 {

@@ -4,7 +4,7 @@
 ghost use Rattle.std.specs.Prelude.{◌≡◌, ◌↔◌, IfSome, IsNone, pos};
 ghost use Rattle.dri_base.specs.Coverage.{area, covers, turned};
 ghost use Rattle.dri_raster.specs.Edges.{IsPixel, IsWithin};
-ghost use Rattle.dri_raster.specs.Triangles.{AreInRange};
+ghost use Rattle.dri_base.specs.Ranges.{TriangleInRange};
 
 use crate::edge::{Edge, cross, difference};
 use dri_base::Triangle;
@@ -37,7 +37,7 @@ impl Setup {
     /// The triangle made ready, and `None` exactly where its area is zero. The corners' coordinates are -32,768 to
     /// 32,767.
     pub fn new(triangle: &Triangle) -> Option<Setup>
-        requires { AreInRange triangle.now }
+        requires { TriangleInRange triangle.now }
         ensures none { IsNone result ↔ (area triangle.now ≡ pos 0) }
         ensures some { IfSome result (λ setup. setup ≡ triangle.now) }
     {
@@ -68,7 +68,7 @@ impl Setup {
 
 /// Twice the area, with its sign.
 fn area(triangle: &Triangle) -> i64
-    requires { AreInRange triangle.now }
+    requires { TriangleInRange triangle.now }
     ensures value { result ≡ area triangle.now }
     ensures small { IsWithin 137438953472 result }
 {
@@ -83,10 +83,10 @@ fn area(triangle: &Triangle) -> i64
 
 /// The triangle, where its area is negative with its second and third corner exchanged.
 fn turned(triangle: &Triangle, doubled: i64) -> Triangle
-    requires in_range { AreInRange triangle.now }
+    requires in_range { TriangleInRange triangle.now }
     requires value { doubled ≡ area triangle.now }
     ensures value { result ≡ turned triangle.now }
-    ensures in_range { AreInRange result }
+    ensures in_range { TriangleInRange result }
 {
     if doubled < 0 {
         Triangle {
