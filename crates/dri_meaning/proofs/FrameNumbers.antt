@@ -5,7 +5,6 @@ use Rattle.std.proofs.lemmas.Bool.{cases_eq, true≢false}
 use Rattle.std.proofs.lemmas.Bool.Decides.{nat_tests}
 use Rattle.dri_base.specs.declared.command.Command.{Command}
 use Rattle.dri_base.specs.declared.command.Command.TheVariants.{Set, Clear, Triangle, Swap, Yield, Die}
-use Rattle.dri_model.specs.Counting.{how_many}
 use Rattle.dri_model.proofs.Touches.{how_many_below}
 use Rattle.dri_meaning.specs.Solo.{frame, frame_from, with_swap, is_clear, is_swap, swaps_before, IsFrame}
 

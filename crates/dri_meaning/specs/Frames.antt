@@ -1,9 +1,8 @@
 -- Frames, which of them stood, and what they leave.
-use Rattle.std.specs.Prelude.{Bool, List, None, Option, Some, [], false, pos, pred, slice_get, true, ℕ, ℤ, ◌++◌, ◌-ℤ◌, ◌<◌, ◌∷◌, ◌≡◌, ◌≢◌}
+use Rattle.std.specs.Prelude.{List, Some, [], pos, true, ℕ, ℤ, ◌++◌, ◌-ℤ◌, ◌∷◌, ◌≡◌, ◌≢◌}
 use Rattle.dri_base.specs.Fragments.{fragment, rules_of}
 use Rattle.dri_base.specs.States.{state_at}
-use Rattle.dri_base.specs.declared.command.Command.{Command}
-use Rattle.dri_base.specs.declared.command.Command.TheVariants.{Clear, Die, Set, Swap, Triangle, Yield}
+use Rattle.dri_base.specs.declared.command.Command.TheVariants.{Triangle}
 use Rattle.dri_base.specs.declared.journal.Entry.{Entry}
 use Rattle.dri_base.specs.declared.journal.Entry.TheVariants.{Run}
 use Rattle.dri_base.specs.declared.scene.Scene.{Scene}

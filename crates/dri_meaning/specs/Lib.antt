@@ -15,4 +15,5 @@ pub mod Turns
 pub mod TurnLaws
 pub mod Decide
 pub mod Reports
-pub mod Examples
+pub mod ExampleScenes
+pub mod ExampleRuns
