@@ -9,3 +9,6 @@ pub mod CoreLaws
 pub mod Decide
 pub mod OneTurn
 pub mod Endings
+pub mod Aged
+pub mod Measures
+pub mod Rounds
