@@ -6,6 +6,8 @@ mod colour;
 mod command;
 mod journal;
 mod memory;
+mod number_set;
+mod ranges;
 mod scene;
 mod sequence;
 mod shape;

@@ -1,0 +1,44 @@
+ghost use Rattle.std.specs.Prelude.{ℕ, ◌<◌, ◌≤◌, List, length, IfOk};
+ghost use Rattle.std.specs.declared.option.Option.{Option};
+ghost use Rattle.std.specs.Io.{ReadsAtMost, WritesAtMost};
+ghost use Rattle.std.specs.Io.KnownBytes.{ReadConsumes, WriteAppends};
+ghost use Rattle.dri_io.specs.Causes.{HasCause};
+
+/// A read or a write that failed.
+#[derive(Clone, Copy, Debug, PartialEq, Eq)]
+pub struct Failed;
+
+/// A source of bytes. It may tell what is left of it, and it counts its failed reads.
+pub trait Source {
+    /// What is left, where the source tells it.
+    ghost left: { Self → Option (List ℕ) };
+
+    /// How many reads have failed, up to the last value of a counter.
+    ghost faults: { Self → ℕ };
+
+    /// Gives the first bytes of what is left, at most as many as there is room for, and none exactly where nothing is
+    /// left. It fails only where the count of faults rose; what is left then stays.
+    fn read(&mut self, into: &mut [u8]) -> Result<usize, Failed>
+        requires { 0 < length into.old }
+        ensures bound { ReadsAtMost result into.new }
+        ensures bytes { ReadConsumes (left self.old) (left self.new) result into.new }
+        ensures cause { HasCause (faults self.old) (faults self.new) result };
+}
+
+/// A sink of bytes. It may tell what it holds, and it counts its failed writes.
+pub trait Sink {
+    /// What it holds, where the sink tells it.
+    ghost held: { Self → Option (List ℕ) };
+
+    /// How many writes have failed, up to the last value of a counter.
+    ghost faults: { Self → ℕ };
+
+    /// Appends the first bytes of a piece, at least one. It fails only where the count of faults rose; nothing was
+    /// appended then.
+    fn write(&mut self, bytes: &[u8]) -> Result<usize, Failed>
+        requires { 0 < length bytes.now }
+        ensures bound { WritesAtMost result bytes.now }
+        ensures some { IfOk result (λ n. 0 < n) }
+        ensures bytes { WriteAppends (held self.old) (held self.new) result bytes.now }
+        ensures cause { HasCause (faults self.old) (faults self.new) result };
+}

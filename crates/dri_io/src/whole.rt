@@ -1,0 +1,66 @@
+ghost use Rattle.std.specs.Prelude.{◌≡◌, ℕ, ◌≤◌, length, take, OnOk, OnErr, IsErrOf};
+ghost use Rattle.std.specs.Io.KnownBytes.{Appends};
+ghost use Rattle.dri_io.specs.Causes.{Rose};
+ghost use Rattle.dri_io.specs.ReadAll.{ReadsAll};
+
+use crate::{Sink, Source};
+use dri_base::Bytes;
+use std::alloc::Global;
+
+/// Why a source wasn't read to its end.
+#[derive(Clone, Copy, Debug, PartialEq, Eq)]
+pub enum ReadAll {
+    Fault,
+    TooLong,
+    OutOfMemory,
+}
+
+/// A sink that failed before it took all.
+#[derive(Clone, Copy, Debug, PartialEq, Eq)]
+pub struct WriteFault;
+
+/// How many bytes are asked for at a time.
+const PIECE: usize = 16384;
+
+/// Reads a source to its end. It is too long exactly where it gave more than `limit` bytes, and a fault is answered only
+/// where the source's count of faults rose in this call.
+pub fn read_all<S: Source>(alloc: Global, source: &mut S, limit: usize) -> Result<Bytes, ReadAll>
+    ensures bytes { ReadsAll limit (S.left source.old) (S.left source.new) result }
+    ensures later { S.faults source.old ≤ S.faults source.new }
+    ensures fault { IsErrOf result ReadAll.Fault → Rose (S.faults source.old) (S.faults source.new) }
+{
+    let mut bytes = Vec::new(alloc);
+    let mut piece = [0; PIECE];
+    while bytes.len() <= limit {
+        match source.read(&mut piece) {
+            Ok(0) => return Ok(Bytes::from_vec(bytes)),
+            Ok(count) => {
+                if bytes.extend_from_slice(&piece[..count]).is_err() {
+                    return Err(ReadAll::OutOfMemory);
+                }
+            }
+            Err(_) => return Err(ReadAll::Fault),
+        }
+    }
+    Err(ReadAll::TooLong)
+}
+
+/// Writes all the bytes, in order. At an `Err`, which comes only where the sink's count of faults rose in this call, a
+/// front of them was taken.
+pub fn write_all<N: Sink>(sink: &mut N, bytes: &[u8]) -> Result<(), WriteFault>
+    ensures ok { OnOk result (Appends (N.held sink.old) (N.held sink.new) bytes.now) }
+    ensures front { OnErr result ((taken : ℕ) × (taken ≤ length bytes.now)
+        × Appends (N.held sink.old) (N.held sink.new) (take taken bytes.now)) }
+    ensures later { N.faults sink.old ≤ N.faults sink.new }
+    ensures fault { OnErr result (Rose (N.faults sink.old) (N.faults sink.new)) }
+{
+    let mut taken = 0;
+    while taken < bytes.len() {
+        let (_, rest) = bytes.split_at(taken);
+        match sink.write(rest) {
+            Ok(count) => taken += count,
+            Err(_) => return Err(WriteFault),
+        }
+    }
+    Ok(())
+}

@@ -1,0 +1,6 @@
+pub mod Lines
+pub mod Text
+pub mod Ppm
+pub mod Screen
+pub mod Notices
+pub mod Outcome

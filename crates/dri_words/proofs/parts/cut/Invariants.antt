@@ -1,0 +1,6 @@
+-- No separator so far.
+use Rattle.std.proofs.Common.{◌≢◌, ℕ, ◌<◌, get_or}
+use Rattle.dri_words.proofs.parts.cut.Given as goal
+
+abbrev pub invariant-loop-i : goal.invariant-loop-i
+invariant-loop-i l = (k : ℕ) → k < l.i → get_or l.bytes k 0 ≢ l.separator

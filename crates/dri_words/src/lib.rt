@@ -1,0 +1,13 @@
+//! What the texts of the product have in common: their lines and words, numbers, colours, ranges, and the reasons for
+//! which a line is refused.
+#![tactic(auto)]
+
+mod parts;
+mod ranges;
+mod reason;
+mod words;
+
+pub use parts::Parts;
+pub use ranges::{signed_within, within};
+pub use reason::Reason;
+pub use words::{alone, colour, colour_alpha, number, word};
