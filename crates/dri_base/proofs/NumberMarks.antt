@@ -28,15 +28,18 @@ marks_more marks numbers n room before = record { room = length-set marks n true
 
   marked : (k : ℕ) → get_or (set marks n true) k false ≡ true → Contains (numbers ++ n ∷ []) k
   marked k is = elim (cases_eq k n) [
-      inl same ↦ subst (λ (j : ℕ). Contains (numbers ++ n ∷ []) j) (sym same) (Contains-push numbers n)
-    | inr other ↦ Contains-append_left numbers (n ∷ []) k (before.marked k (sym (get_or-set_other marks n k true false other) ∙ is)) ]
+    | inl same ↦ subst (λ (j : ℕ). Contains (numbers ++ n ∷ []) j) (sym same) (Contains-push numbers n)
+    | inr other ↦ Contains-append_left numbers (n ∷ []) k (before.marked k (sym (get_or-set_other marks n k true false other) ∙ is))
+  ]
 
   listed : (k : ℕ) → Contains (numbers ++ n ∷ []) k → get_or (set marks n true) k false ≡ true
   listed k in' = elim (cases_eq k n) [
-      inl same ↦ subst (λ (j : ℕ). get_or (set marks n true) j false ≡ true) (sym same) (get_or-set_same marks n true false below)
+    | inl same ↦ subst (λ (j : ℕ). get_or (set marks n true) j false ≡ true) (sym same) (get_or-set_same marks n true false below)
     | inr other ↦ elim (Contains-push_cases numbers n k in') [
-          inl old ↦ get_or-set_other marks n k true false other ∙ before.listed k old
-        | inr new ↦ absurd (other (sym new)) ] ]
+      | inl old ↦ get_or-set_other marks n k true false other ∙ before.listed k old
+      | inr new ↦ absurd (other (sym new))
+    ]
+  ]
 
 -- a number that isn't marked isn't listed
 pub unlisted : (marks : List Bool) (numbers : List ℕ) (n : ℕ) → AreMarksOf marks numbers → get_or marks n false ≡ false → Contains numbers n → ⊥

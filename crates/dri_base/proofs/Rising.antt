@@ -39,12 +39,16 @@ pub rises_more : {X : Type 0} (P : X → Type 0) (number : X → ℕ) (xs : List
 rises_more {X} P number xs i x d marks last below at before good above room = subst (λ (ys : List X). RisesSoFar P number ys (set marks (number x) true) (number x)) (sym along) more where
   along : take (i + 1) xs ≡ take i xs ++ x ∷ []
   along = take_more xs i d below ∙ ap (λ v. take i xs ++ v ∷ []) (sym at)
+
   numbers : List ℕ
   numbers = map number (take i xs)
+
   numbers_more : numbers ++ number x ∷ [] ≡ map number (take i xs ++ x ∷ [])
   numbers_more = sym (map-append number (take i xs) (x ∷ []))
+
   climbs : (k e : ℕ) → k < length numbers → get_or numbers k e < number x
   climbs k e in' = let most = before.most k e in' in omega arith
+
   more : RisesSoFar P number (take i xs ++ x ∷ []) (set marks (number x) true) (number x)
   more = record {
     each = All-push P (take i xs) x before.each good;
@@ -62,5 +66,6 @@ each_broken P xs i d below bad all = bad (all i d below)
 pub rises_broken : {X : Type 0} (P : X → Type 0) (number : X → ℕ) (xs : List X) (i : ℕ) (x d : X) (marks : List Bool) (last : ℕ) → i < length xs → x ≡ get_or xs i d → RisesSoFar P number (take i xs) marks last → 0 < number x → number x ≤ last → AllPairs ◌<◌ (map number xs) → ⊥
 rises_broken P number xs i x d marks last below at before counted low rising =
     elim before.is_last [
-        inl none ↦ omega arith
-      | inr in' ↦ let above = later_above (map number (take i xs)) (map number (drop (i + 1) xs)) last (number x) in' (subst (AllPairs ◌<◌) (split_numbers number xs i x d below at) rising) in omega arith ]
+      | inl none ↦ omega arith
+      | inr in' ↦ let above = later_above (map number (take i xs)) (map number (drop (i + 1) xs)) last (number x) in' (subst (AllPairs ◌<◌) (split_numbers number xs i x d below at) rising) in omega arith
+    ]

@@ -57,8 +57,9 @@ middle_fits numbers (Kill client) more n is all =
 
 marked_fits : (marks : List Bool) (n : ℕ) → length marks ≡ 65 → get_or marks n false ≡ true → n < 65
 marked_fits marks n room is = elim (cases_lt n 65) [
-      inl below ↦ below
-    | inr above ↦ absurd (false≢true (sym (get_or_past marks n false (omega arith)) ∙ is)) ]
+  | inl below ↦ below
+  | inr above ↦ absurd (false≢true (sym (get_or_past marks n false (omega arith)) ∙ is))
+]
 
 -- what holds of each client that is killed holds of the one that an item kills
 pub victims_fit : (items : List Item) (i : ℕ) (d : Item) → i < length items → All (λ n. n < 65) (victims items) → (n : ℕ) → victim (get_or items i d) ≡ Some n → n < 65

@@ -33,8 +33,10 @@ pub windows_more : (ws : List Window) (i : ℕ) (w : Window) (marks : List Bool)
 windows_more ws i w marks below at before good fresh = subst (λ (vs : List Window). WindowsSoFar vs (set marks w.number true)) (sym (along ws i w below at)) more where
   numbers : List ℕ
   numbers = window_numbers (take i ws)
+
   numbers_more : numbers ++ w.number ∷ [] ≡ window_numbers (take i ws ++ w ∷ [])
   numbers_more = sym (map-append (λ v. v.number) (take i ws) (w ∷ []))
+
   more : WindowsSoFar (take i ws ++ w ∷ []) (set marks w.number true)
   more = record {
     windows = record {
