@@ -1,6 +1,6 @@
 use Rattle.dri_meaning.proofs.Cores.{journal_is_hold_run, journal_after}
 use Rattle.dri_meaning.proofs.CoreLaws.{confined_core, own_core, solo_left_core}
-use Rattle.dri_meaning.proofs.core.Goals as goal
+use Rattle.dri_meaning.proofs.core_runs.core.Goals as goal
 
 pub returns-clause-journal : goal.returns-clause-journal
 returns-clause-journal c = journal_is_hold_run

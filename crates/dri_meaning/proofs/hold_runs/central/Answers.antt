@@ -1,7 +1,7 @@
 use Rattle.dri_meaning.specs.Runs.{after}
 use Rattle.dri_meaning.proofs.Laws.{light_is_current, acting_is_current, owner_is_clean}
 use Rattle.dri_meaning.proofs.Textures.{sound_after, intact_at}
-use Rattle.dri_meaning.proofs.central.Goals as goal
+use Rattle.dri_meaning.proofs.hold_runs.central.Goals as goal
 
 pub returns-clause-light : goal.returns-clause-light
 returns-clause-light c = λ s journal good run. light_is_current s (after s journal) (sound_after s journal good run)
