@@ -28,6 +28,13 @@ module _ {G B E : Type 0} {g : Ghosts G B E} where
     l,
   )
 
+  -- new passes are all of their lock
+  pub new_of_lock : (id : LockId) (b : B) (from : ℕ) (ps : List (Pass G B E g)) → AreNew id b from ps → AllOfLock id ps
+  new_of_lock id b from ps all k p at = ap (λ t. t.lock) (all k p at).0
+
+  pub snoc_of_lock : (id : LockId) (ps : List (Pass G B E g)) (p : Pass G B E g) → AllOfLock id ps → (pass_token p).lock ≡ id → AllOfLock id (ps ++ p ∷ [])
+  snoc_of_lock id ps p all one k q at = ⊎_elim (λ t. all k q t) (λ (t : (p ≡ q) × (k ≡ length ps)). ap (λ x. (pass_token x).lock) (sym t.0) ∙ one) (at_end ps p q k at)
+
   pub some_of_lock : (id : LockId) (all ps qs : List (Pass G B E g)) → all ≡ ps ++ qs → AllOfLock id all → AllOfLock id ps
   some_of_lock id all ps qs e of k p at = of k p (ap (λ (l : List (Pass G B E g)). get_elem? l k) e ∙ at_before ps qs k p at)
 
