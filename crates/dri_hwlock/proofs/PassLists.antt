@@ -1,6 +1,6 @@
 -- Lists of passes: new ones, those of one lock, and entries that begin with what each has seen.
-use Rattle.std.proofs.Common.{◌≡◌, ℕ, zero, suc, ◌+◌, List, [], ◌∷◌, ◌++◌, length, sym, refl, ap, ◌∙◌, subst, arith, ⊎_elim, length-append}
-use mathlib.Core.Option.{some, some-injective, some-ne-none}
+use Rattle.std.proofs.Common.{◌≡◌, ℕ, zero, suc, ◌+◌, List, [], ◌∷◌, ◌++◌, length, sym, ap, ◌∙◌, subst, arith, ⊎_elim, length-append}
+use mathlib.Core.Option.{some-injective, some-ne-none}
 use lib.ListN.{get_elem?}
 use Rattle.dri_hwlock.specs.declared.guarded.Guarded.{Ghosts}
 use Rattle.dri_hwlock.specs.declared.tokens.Pass.{Pass}

@@ -8,7 +8,8 @@ use crate::passes::Passes;
 use crate::rule::JoinSeats;
 
 impl<G: Guarded> HwLock<G> {
-    /// The value, whose entries begin with what each pass has seen. It needs all passes that `new` made.
+    /// The value, whose entries begin with what each pass has seen. It needs all passes that `new`
+    /// made.
     pub fn close(self, passes: Passes<G>) -> G
         requires all { length (passes_in passes) ≡ pass_count self }
         requires own { AllOfLock (id_of self) (passes_in passes) }

@@ -11,19 +11,22 @@ use crate::rule::{CountSwap, LeaveSwap, LightLeave};
 use crate::tokens::{Grip, Hold, Parting, Pass, Place};
 
 impl<G: Guarded> HwLock<G> {
-    /// Ends a hold in the name of its own context by one exchange, after which the word is that context. `Parting`
-    /// exactly where the word found has bit 30. The value is home in both cases.
+    /// Ends a hold in the name of its own context by one exchange, after which the word is that
+    /// context. `Parting` exactly where the word found has bit 30. The value is home in both cases.
     pub fn leave(&self, hold: Hold<G>) -> Result<Pass<G>, Parting<G>>
         requires own { (hold_token hold).lock ≡ id_of self.now }
         requires client { name_of hold ≡ (hold_token hold).context }
         requires base { KeepsBase hold }
         requires adds { AddsOwn hold }
         requires closer { G.closer_of (value_in hold) ≡ (hold_token hold).context }
-        ensures look { IfOk result (λ pass. pass_token pass ≡ after_look (left_token hold) (held_word (hold_token hold).context)) }
+        ensures look { IfOk result (λ pass. pass_token pass
+            ≡ after_look (left_token hold) (held_word (hold_token hold).context)) }
         ensures uncontended { IfOk result (λ pass. IsUncontended (pass_token pass).last_word) }
         ensures lightly { IfOk result (λ pass. left_lightly pass ≡ 1) }
-        ensures parting { IfErr result (λ parting. parting_token parting ≡ after_look (left_token hold) (parting_token parting).last_word) }
-        ensures contended { IfErr result (λ parting. IsContended (parting_token parting).last_word) }
+        ensures parting { IfErr result (λ parting. parting_token parting
+            ≡ after_look (left_token hold) (parting_token parting).last_word) }
+        ensures contended { IfErr result (λ parting.
+            IsContended (parting_token parting).last_word) }
     {
         let context = hold.grip.context;
         let word = u64::from(context);
@@ -50,8 +53,10 @@ impl<G: Guarded> HwLock<G> {
         requires base { KeepsBase hold }
         requires adds { AddsOwn hold }
         requires closer { G.closer_of (value_in hold) ≡ 1 }
-        ensures look { pass_token result.pass ≡ after_look (left_token hold) (pass_token result.pass).last_word }
-        ensures contended { IsTrue result.contended ↔ IsContended (pass_token result.pass).last_word }
+        ensures look { pass_token result.pass
+            ≡ after_look (left_token hold) (pass_token result.pass).last_word }
+        ensures contended { IsTrue result.contended
+            ↔ IsContended (pass_token result.pass).last_word }
         ensures lightly { left_lightly result.pass ≡ 0 }
     {
         let context = hold.grip.context;
@@ -83,8 +88,10 @@ impl<G: Guarded> HwLock<G> {
     /// Frees the word by one swap, after which it is 0.
     pub fn leave_kernel(&self, parting: Parting<G>) -> Pass<G>
         requires own { (parting_token parting).lock ≡ id_of self.now }
-        ensures look { pass_token result ≡ after_look (parting_token parting) (pass_token result).last_word }
-        ensures contended { IsContended (parting_token parting).last_word → IsContended (pass_token result).last_word }
+        ensures look { pass_token result
+            ≡ after_look (parting_token parting) (pass_token result).last_word }
+        ensures contended { IsContended (parting_token parting).last_word
+            → IsContended (pass_token result).last_word }
         ensures lightly { left_lightly result ≡ 0 }
     {
         let Parting {
@@ -96,12 +103,18 @@ impl<G: Guarded> HwLock<G> {
         Pass { seat, context }
     }
 
-    // Puts the value into its slot, and then stores the number of its entries: with that swap it is home.
+    // Puts the value into its slot, and then stores the number of its entries: with that swap it is
+    // home.
     fn put_home(&self, hold: Hold<G>) -> Place<G>
         requires own { hold.grip.seat.table_id ≡ self.now.table.shared.table_id }
         requires base { KeepsBase hold }
         requires adds { AddsOwn hold }
-        ensures { (result.table_id ≡ hold.grip.seat.table_id) × (result.me ≡ (with_value_home hold.grip.seat.me.0 hold.grip.name (G.closer_of hold.value) (G.entries_of hold.value), [])) }
+        ensures own { result.table_id ≡ hold.grip.seat.table_id }
+        ensures home { result.me ≡ (
+          with_value_home hold.grip.seat.me.0 hold.grip.name
+              (G.closer_of hold.value) (G.entries_of hold.value),
+          [],
+        ) }
     {
         let Hold { grip, value } = hold;
         let Grip {

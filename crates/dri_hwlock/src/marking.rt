@@ -1,4 +1,5 @@
-//! How a token that waits marks a held word as contended, so that its holder leaves through the kernel.
+//! How a token that waits marks a held word as contended, so that its holder leaves through the
+//! kernel.
 ghost use Rattle.std.specs.Prelude.{◌≡◌, ℕ};
 ghost use Rattle.dri_hwlock.specs.Views.{is_outside, with_look};
 ghost use Rattle.dri_hwlock.specs.Seats.{empty_handed};

@@ -16,15 +16,17 @@ use std::snapshot::Snapshot;
 const MOST_PASSES: usize = 33;
 
 impl<G: Guarded> HwLock<G> {
-    /// A lock round a value without entries, and its passes, 1 to 33, with the contexts 1, 2 and so on. The word is 1.
-    /// This call alone takes memory: where there is none, the value comes back.
+    /// A lock round a value without entries, and its passes, 1 to 33, with the contexts 1, 2 and so
+    /// on. The word is 1. This call alone takes memory: where there is none, the value comes back.
     pub fn new(alloc: Global, value: G, passes: u32) -> Result<(HwLock<G>, Passes<G>), Unopened<G>>
         requires passes { (0 < passes) × (passes ≤ 33) }
         requires entries { G.entries_of value ≡ [] }
         requires closer { G.closer_of value ≡ 1 }
-        ensures lock { IfOk result (λ r. (pass_count r.0 ≡ passes) × (G.base_of (opening_value r.0) ≡ G.base_of value)) }
+        ensures lock { IfOk result (λ r. pass_count r.0 ≡ passes) }
+        ensures base { IfOk result (λ r. G.base_of (opening_value r.0) ≡ G.base_of value) }
         ensures count { IfOk result (λ r. length (passes_in r.1) ≡ passes) }
-        ensures passes { IfOk result (λ r. AreNew (id_of r.0) (G.base_of value) 1 (passes_in r.1)) }
+        ensures passes { IfOk result (λ r.
+            AreNew (id_of r.0) (G.base_of value) 1 (passes_in r.1)) }
         ensures unopened { IfErr result (λ unopened. unopened.value ≡ value) }
     {
         let key = Key {
@@ -58,7 +60,8 @@ impl<G: Guarded> HwLock<G> {
     // The pass of context 1, whose seat makes those of the others, and then the others.
     fn make_passes(&self, mut first: Place<G>, mut list: Vec<Pass<G>>) -> Vec<Pass<G>>
         requires own { first.table_id ≡ self.now.table.shared.table_id }
-        requires first { first.me ≡ (new_view (Some (G.base_of (opening_value self.now))) self.now.passes 1 1, []) }
+        requires first { first.me
+            ≡ (new_view (Some (G.base_of (opening_value self.now))) self.now.passes 1 1, []) }
         requires list { (list.items ≡ []) × (33 ≤ vec_capacity list) }
         ensures count { length result.items ≡ self.now.passes }
         ensures passes { AreNew (id_of self.now) (G.base_of (opening_value self.now)) 1 result.items }

@@ -4,7 +4,8 @@ use crate::view::View;
 use atomic_table::{Join, Play, Split, TableRule};
 use std::snapshot::Snapshot;
 
-/// What the table is told once: the opening value, as a snapshot without bytes, and the number of passes.
+/// What the table is told once: the opening value, as a snapshot without bytes, and the number of
+/// passes.
 pub struct Key<G> {
     pub value: Snapshot<G>,
     pub passes: u64,

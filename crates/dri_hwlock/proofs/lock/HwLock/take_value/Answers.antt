@@ -1,5 +1,5 @@
 use Rattle.std.proofs.Common.{rules, arith, ap, sym, ◌∙◌, Some, ⊎_elim, inl, inr}
-use Rattle.dri_hwlock.specs.Views.{is_outside, with_look}
+use Rattle.dri_hwlock.specs.Views.{is_outside}
 use Rattle.dri_hwlock.proofs.Keeps.{looks, takes_lock}
 use Rattle.dri_hwlock.proofs.Seats.{is_empty_handed, in_hand}
 use Rattle.dri_hwlock.proofs.lock.HwLock.take_value.Goals as goal
@@ -7,8 +7,8 @@ use Rattle.dri_hwlock.proofs.lock.HwLock.take_value.Goals as goal
 pub load-loaded-requires : goal.load-loaded-requires
 load-loaded-requires g c = let G = g.G.Guarded in (search rules, search rules, looks G.base_of G.entries_of G.context_of G.closer_of _ _ _ _ _)
 
-pub returns-then-loaded-ge-HELD-clause-err : goal.returns-then-loaded-ge-HELD-clause-err
-returns-then-loaded-ge-HELD-clause-err g c = let e = c.load-loaded.ensures.2.1 in (is_empty_handed _ (ap (λ n. n.1) e ∙ ap (λ s. s.me.1) c.requires.empty), (ap (λ n. n.0) e, search rules))
+pub returns-then-loaded-ge-HELD-clause-empty : goal.returns-then-loaded-ge-HELD-clause-empty
+returns-then-loaded-ge-HELD-clause-empty g c = is_empty_handed _ (ap (λ n. n.1) c.load-loaded.ensures.2.1 ∙ ap (λ s. s.me.1) c.requires.empty)
 
 pub compare_exchange-found-requires : goal.compare_exchange-found-requires
 compare_exchange-found-requires g c = let G = g.G.Guarded in let e = c.load-loaded.ensures.2.1 in let b = is_empty_handed c.load-loaded.new.seat (ap (λ n. n.1) e ∙ ap (λ s. s.me.1) c.requires.empty) in
@@ -18,6 +18,6 @@ compare_exchange-found-requires g c = let G = g.G.Guarded in let e = c.load-load
 pub exchange-requires : goal.exchange-requires
 exchange-requires g c = let t = c.compare_exchange-found.ensures.2.1 c.if-found-loaded.true in (search rules, (Some t.0, in_hand _ _ _ (ap (λ n. n.1) t.1)))
 
-pub returns-else-found-loaded-clause-err : goal.returns-else-found-loaded-clause-err
-returns-else-found-loaded-clause-err g c = let e = c.load-loaded.ensures.2.1 in let f = c.compare_exchange-found.ensures.2.2 c.if-found-loaded.false in
-    (is_empty_handed _ (ap (λ n. n.1) f ∙ (ap (λ n. n.1) e ∙ ap (λ s. s.me.1) c.requires.empty)), (ap (λ n. n.0) f ∙ ap (λ n. with_look n.0 c.compare_exchange-found.result) e, search rules, c.if-found-loaded.false))
+pub returns-else-found-loaded-clause-empty : goal.returns-else-found-loaded-clause-empty
+returns-else-found-loaded-clause-empty g c =
+    is_empty_handed _ (ap (λ n. n.1) (c.compare_exchange-found.ensures.2.2 c.if-found-loaded.false) ∙ (ap (λ n. n.1) c.load-loaded.ensures.2.1 ∙ ap (λ s. s.me.1) c.requires.empty))
