@@ -1,6 +1,6 @@
 use Rattle.std.proofs.Common.{rules, arith, ap, sym, ◌∙◌, refl, ◌+◌}
 use Rattle.dri_hwlock.specs.Views.{is_at_rest, is_left_lightly, with_seat_made, next_view}
-use Rattle.dri_hwlock.proofs.Keeps.{splits}
+use Rattle.dri_hwlock.proofs.Keeps.{split_keeps}
 use Rattle.dri_hwlock.proofs.Seats.{is_empty_handed}
 use Rattle.dri_hwlock.proofs.PassLists.{snoc_new, cons_new}
 use Rattle.dri_hwlock.proofs.TokenLaws.{same_token}
@@ -8,7 +8,7 @@ use Rattle.dri_hwlock.proofs.lock.HwLock.make_passes.Goals as goal
 
 pub split_seat-seat-requires : goal.split_seat-seat-requires
 split_seat-seat-requires g c = let G = g.G.Guarded in let inv = c.loop-i.invariant.1 in let made = ap (λ m. m.0.seats_made) inv in let all = ap (λ m. m.0.passes) inv in let more = c.loop-i-test.true in
-    (search rules, search rules, splits G.base_of G.entries_of G.context_of G.closer_of _ _ _ _ (ap (λ m. m.0.context) inv) (ap (λ m. is_at_rest m.0.stage) inv) (omega arith))
+    (search rules, search rules, split_keeps G.base_of G.entries_of G.context_of G.closer_of _ _ _ _ (ap (λ m. m.0.context) inv) (ap (λ m. is_at_rest m.0.stage) inv) (omega arith))
 
 pub invariant_of-push_reserved : goal.invariant_of-push_reserved
 invariant_of-push_reserved g c = let inv = c.loop-i.invariant.1 in let e = c.split_seat-seat.ensures.4 in record {
