@@ -26,8 +26,9 @@ pub record Moment (G E : Type 0) : Type 0 where
   pub home : maybe.Option G
 
 module _ {G B E : Type 0} (base_of : G → B) (entries_of : G → List E) (context_of : E → ℕ) (closer_of : G → ℕ) where
-  -- What the view of each seat that was not joined away agrees with. Seat j has the context j + 1. All have one base. What each has seen is a beginning of all entries, so of any two lists one begins
-  -- with the other. Each has seen all entries of its own context. The first knows the number of seats.
+  -- What the view of each seat that was not joined away agrees with. Seat j has the context j + 1. All have one base. What each
+  -- has seen is a beginning of all entries, so of any two lists one begins with the other. Each has seen all entries of its own
+  -- context. The first knows the number of seats.
   pub record Agrees (b : B) (passes seats : ℕ) (entries : List E) (j : ℕ) (v : View B E) : Type 0 where
     pub same_base : v.base ≡ Some b
     pub same_context : v.context ≡ j + 1
@@ -38,7 +39,8 @@ module _ {G B E : Type 0} (base_of : G → B) (entries_of : G → List E) (conte
     pub counts_seats : j ≡ 0 → v.seats_made ≡ seats
 
   module _ (b : B) (passes seats : ℕ) (m : Moment G E) (j : ℕ) (v : View B E) where
-    -- in a hold under this name: it is the one holder, it has seen all entries, and the word names it, or 1. Where its last word was contended, the word is
+    -- in a hold under this name: it is the one holder, it has seen all entries, and the word names it, or 1. Where its last word
+    -- was contended, the word is
     abbrev pub IsHolder : ℕ → Type 0
     IsHolder name = Agrees b passes seats m.entries j v × (m.held ≡ 1) × (m.holder ≡ j) × (name ≡ m.context) × (v.seen ≡ m.entries) × (IsContended v.last_word → m.contended ≡ 1) × ((name ≡ j + 1) ⊎ (name ≡ 1))
 

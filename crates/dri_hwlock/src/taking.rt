@@ -82,19 +82,12 @@ impl<G: Guarded> HwLock<G> {
                 Ok(Hold { grip, value })
             },
             Err(miss) => {
-                let token = Late {
+                let late = Late {
                     seat,
                     context,
                     found: first_found,
                 };
-                Err(match miss {
-                    Miss::Held(word) => Refused::Held { word, token },
-                    Miss::Moved(loaded, found) => Refused::Moved {
-                        loaded,
-                        found,
-                        token,
-                    },
-                })
+                Err(miss.refuse(late))
             }
         }
     }
@@ -123,17 +116,7 @@ impl<G: Guarded> HwLock<G> {
                 };
                 Ok(Hold { grip, value })
             },
-            Err(miss) => {
-                let token = Pass { seat, context };
-                Err(match miss {
-                    Miss::Held(word) => Refused::Held { word, token },
-                    Miss::Moved(loaded, found) => Refused::Moved {
-                        loaded,
-                        found,
-                        token,
-                    },
-                })
-            }
+            Err(miss) => Err(miss.refuse(Pass { seat, context })),
         }
     }
 
