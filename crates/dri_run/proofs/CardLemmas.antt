@@ -49,9 +49,9 @@ pub cleared : (front back new_back : Grid Rgb) (depth new_depth : Grid ℕ) (rec
     → Becomes back new_back (λ g x y. if in_rect rect x y then colour else g x y) → Becomes depth new_depth (λ g x y. if in_rect rect x y then z else g x y)
     → HoldsCells front back depth f → HoldsCells front new_back new_depth (changed_in rect origin (λ x y cell. after_command x y cell (Clear colour z)) f)
 cleared front back new_back depth new_depth rect origin colour z f bw bh dw dh becomes deepens holds = record {
-  front = stays (λ c. c.front) front rect origin _ f (λ x y cell. refl) holds.front;
-  back = changes (λ c. c.behind.colour) back new_back rect origin _ f _ bw bh becomes (λ x y. refl) holds.back;
-  depth = changes (λ c. c.behind.depth) depth new_depth rect origin _ f _ dw dh deepens (λ x y. refl) holds.depth;
+  shown = stays (λ c. c.front) front rect origin _ f (λ x y cell. refl) holds.shown;
+  drawn = changes (λ c. c.behind.colour) back new_back rect origin _ f _ bw bh becomes (λ x y. refl) holds.drawn;
+  deep = changes (λ c. c.behind.depth) depth new_depth rect origin _ f _ dw dh deepens (λ x y. refl) holds.deep;
 }
 
 -- a swap
@@ -60,9 +60,9 @@ pub swapped : (front new_front back : Grid Rgb) (depth : Grid ℕ) (rect : ClipR
     → ((source : ℕ → ℕ → Rgb) → back.pixels ≡ plane back.width back.height source → Becomes front new_front (λ g x y. if in_rect rect x y then source x y else g x y))
     → HoldsCells front back depth f → HoldsCells new_front back depth (changed_in rect origin (λ x y cell. after_command x y cell Swap) f)
 swapped front new_front back depth rect origin f wide high copies holds = record {
-  front = changes (λ c. c.front) front new_front rect origin _ f _ wide high (copies (λ x y. (f x y).behind.colour) holds.back) (λ x y. refl) holds.front;
-  back = stays (λ c. c.behind.colour) back rect origin _ f (λ x y cell. refl) holds.back;
-  depth = stays (λ c. c.behind.depth) depth rect origin _ f (λ x y cell. refl) holds.depth;
+  shown = changes (λ c. c.front) front new_front rect origin _ f _ wide high (copies (λ x y. (f x y).behind.colour) holds.drawn) (λ x y. refl) holds.shown;
+  drawn = stays (λ c. c.behind.colour) back rect origin _ f (λ x y cell. refl) holds.drawn;
+  deep = stays (λ c. c.behind.depth) depth rect origin _ f (λ x y cell. refl) holds.deep;
 }
 
 -- the colour of a flat triangle
@@ -97,11 +97,11 @@ pub triangled : (front back new_back : Grid Rgb) (depth : Grid ℕ) (rect : Clip
     → Becomes back new_back (λ g x y. if in_rect rect x y && covers t (pos x -ℤ origin.x) (pos y -ℤ origin.y) then flat_colour t else g x y)
     → HoldsCells front back depth f → HoldsCells front new_back depth (changed_in rect origin (λ x y cell. after_command x y cell (DrawTriangle t)) f)
 triangled front back new_back depth rect origin t f wide high becomes holds = record {
-  front = stays (λ c. c.front) front rect origin _ f (λ x y cell. refl) holds.front;
-  back = changes (λ c. c.behind.colour) back new_back rect origin _ f _ wide high becomes
+  shown = stays (λ c. c.front) front rect origin _ f (λ x y cell. refl) holds.shown;
+  drawn = changes (λ c. c.behind.colour) back new_back rect origin _ f _ wide high becomes
       (λ x y. both (in_rect rect x y) (covers t (pos x -ℤ origin.x) (pos y -ℤ origin.y)) (flat_colour t) (f x y).behind.colour
-          ∙ in_branch (in_rect rect x y) _ _ (f x y).behind.colour (sym (colour_left t (pos x -ℤ origin.x) (pos y -ℤ origin.y) (f x y).behind))) holds.back;
-  depth = stays (λ c. c.behind.depth) depth rect origin _ f (λ x y cell. depth_left t x y cell.behind) holds.depth;
+          ∙ in_branch (in_rect rect x y) _ _ (f x y).behind.colour (sym (colour_left t (pos x -ℤ origin.x) (pos y -ℤ origin.y) (f x y).behind))) holds.drawn;
+  deep = stays (λ c. c.behind.depth) depth rect origin _ f (λ x y cell. depth_left t x y cell.behind) holds.deep;
 }
 
 -- a triangle that covers nothing
@@ -109,26 +109,26 @@ pub untouched : (front back : Grid Rgb) (depth : Grid ℕ) (rect : ClipRect) (or
     → ((x y : ℤ) → covers t x y ≡ false)
     → HoldsCells front back depth f → HoldsCells front back depth (changed_in rect origin (λ x y cell. after_command x y cell (DrawTriangle t)) f)
 untouched front back depth rect origin t f none holds = record {
-  front = stays (λ c. c.front) front rect origin _ f (λ x y cell. refl) holds.front;
-  back = stays (λ c. c.behind.colour) back rect origin _ f (λ x y cell. sym (colour_left t x y cell.behind ∙ ap (λ b. if b then flat_colour t else cell.behind.colour) (none x y))) holds.back;
-  depth = stays (λ c. c.behind.depth) depth rect origin _ f (λ x y cell. depth_left t x y cell.behind) holds.depth;
+  shown = stays (λ c. c.front) front rect origin _ f (λ x y cell. refl) holds.shown;
+  drawn = stays (λ c. c.behind.colour) back rect origin _ f (λ x y cell. sym (colour_left t x y cell.behind ∙ ap (λ b. if b then flat_colour t else cell.behind.colour) (none x y))) holds.drawn;
+  deep = stays (λ c. c.behind.depth) depth rect origin _ f (λ x y cell. depth_left t x y cell.behind) holds.deep;
 }
 
 -- a change that leaves every cell as it is
 pub unchanged : (front back : Grid Rgb) (depth : Grid ℕ) (rect : ClipRect) (origin : Point) (change : ℤ → ℤ → Cell → Cell) (f : ℕ → ℕ → Cell)
     → ((x y : ℤ) (cell : Cell) → cell ≡ change x y cell) → HoldsCells front back depth f → HoldsCells front back depth (changed_in rect origin change f)
 unchanged front back depth rect origin change f same holds = record {
-  front = stays (λ c. c.front) front rect origin change f (λ x y cell. ap (λ (c : Cell). c.front) (same x y cell)) holds.front;
-  back = stays (λ c. c.behind.colour) back rect origin change f (λ x y cell. ap (λ (c : Cell). c.behind.colour) (same x y cell)) holds.back;
-  depth = stays (λ c. c.behind.depth) depth rect origin change f (λ x y cell. ap (λ (c : Cell). c.behind.depth) (same x y cell)) holds.depth;
+  shown = stays (λ c. c.front) front rect origin change f (λ x y cell. ap (λ (c : Cell). c.front) (same x y cell)) holds.shown;
+  drawn = stays (λ c. c.behind.colour) back rect origin change f (λ x y cell. ap (λ (c : Cell). c.behind.colour) (same x y cell)) holds.drawn;
+  deep = stays (λ c. c.behind.depth) depth rect origin change f (λ x y cell. ap (λ (c : Cell). c.behind.depth) (same x y cell)) holds.deep;
 }
 
 -- cells that are equal at each place
 pub same_cells : (front back : Grid Rgb) (depth : Grid ℕ) (f g : ℕ → ℕ → Cell) → ((x y : ℕ) → f x y ≡ g x y) → HoldsCells front back depth f → HoldsCells front back depth g
 same_cells front back depth f g same holds = record {
-  front = holds.front ∙ plane_same front.width front.height _ _ (λ x y lx ly. ap (λ (c : Cell). c.front) (same x y));
-  back = holds.back ∙ plane_same back.width back.height _ _ (λ x y lx ly. ap (λ (c : Cell). c.behind.colour) (same x y));
-  depth = holds.depth ∙ plane_same depth.width depth.height _ _ (λ x y lx ly. ap (λ (c : Cell). c.behind.depth) (same x y));
+  shown = holds.shown ∙ plane_same front.width front.height _ _ (λ x y lx ly. ap (λ (c : Cell). c.front) (same x y));
+  drawn = holds.drawn ∙ plane_same back.width back.height _ _ (λ x y lx ly. ap (λ (c : Cell). c.behind.colour) (same x y));
+  deep = holds.deep ∙ plane_same depth.width depth.height _ _ (λ x y lx ly. ap (λ (c : Cell). c.behind.depth) (same x y));
 }
 
 -- one change after another
@@ -139,3 +139,18 @@ changed_twice rect origin first second both f same x y = by_rect (in_rect rect x
       ≡ (if b then both (pos x -ℤ origin.x) (pos y -ℤ origin.y) (f x y) else f x y)
   by_rect true = same _ _ (f x y)
   by_rect false = refl
+
+-- a row's place that is drawn, and the place that the next turn draws too
+pub row_more : {A : Type 0} (g mid new : Grid A) (x1 x y : ℕ) (colour : A) (cover : ℕ → ℕ → Bool)
+    → mid.width ≡ g.width → mid.height ≡ g.height → x1 ≤ x
+    → Becomes g mid (λ f a b. if ((b == y) && (nat_le x1 a && nat_lt a x)) && cover a b then colour else f a b)
+    → cover x y ≡ true → Becomes mid new (λ f a b. if is_place x y a b then colour else f a b)
+    → Becomes g new (λ f a b. if ((b == y) && (nat_le x1 a && nat_lt a (x + 1))) && cover a b then colour else f a b)
+row_more g mid new x1 x y colour cover wide high from so_far covered puts f holds =
+    subst (λ w. new.pixels ≡ plane w g.height _) wide (subst (λ h. new.pixels ≡ plane mid.width h _) high
+        (puts _ (subst (λ w. mid.pixels ≡ plane w mid.height _) (sym wide) (subst (λ h. mid.pixels ≡ plane g.width h _) (sym high) (so_far f holds)))))
+    ∙ plane_same g.width g.height _ _ (λ a b la lb. at a b)
+  where
+    at : (a b : ℕ) → (if is_place x y a b then colour else (if ((b == y) && (nat_le x1 a && nat_lt a x)) && cover a b then colour else f a b))
+        ≡ (if ((b == y) && (nat_le x1 a && nat_lt a (x + 1))) && cover a b then colour else f a b)
+    at a b = grind (arith, nat_tests)

@@ -44,9 +44,9 @@ changed_in rect origin change cells x y =
 
 -- the three planes hold a cell for each place
 pub record HoldsCells (front back : Grid Rgb) (depth : Grid ℕ) (cells : ℕ → ℕ → Cell) : Type 0 where
-  pub front : front.pixels ≡ plane front.width front.height (λ x y. (cells x y).front)
-  pub back : back.pixels ≡ plane back.width back.height (λ x y. (cells x y).behind.colour)
-  pub depth : depth.pixels ≡ plane depth.width depth.height (λ x y. (cells x y).behind.depth)
+  pub shown : front.pixels ≡ plane front.width front.height (λ x y. (cells x y).front)
+  pub drawn : back.pixels ≡ plane back.width back.height (λ x y. (cells x y).behind.colour)
+  pub deep : depth.pixels ≡ plane depth.width depth.height (λ x y. (cells x y).behind.depth)
 
 -- the planes have these sides
 pub record HaveSides (front back : Grid Rgb) (depth : Grid ℕ) (width height : ℕ) : Type 0 where
