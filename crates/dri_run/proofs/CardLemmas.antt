@@ -1,6 +1,8 @@
 -- What each command makes of the card's cells.
-use Rattle.std.proofs.Common.{◌≡◌, ℕ, ◌+◌, ◌<◌, ◌≤◌, List, [], ◌∷◌, ◌++◌, take, fold, Bool, true, false, ◌&&◌, ◌==◌, nat_le, nat_lt, if◌then◌else◌, Option, Some, None, ℤ, pos, ◌-ℤ◌, refl, sym, ap, ◌∙◌, subst, arith, rules}
-use Rattle.std.proofs.lemmas.Bool.Decides.{nat_tests}
+use Rattle.std.proofs.Common.{◌≡◌, ℕ, ◌+◌, ◌<◌, ◌≤◌, List, [], ◌∷◌, ◌++◌, take, fold, length, get_or, add-one, Bool, true, false, ◌&&◌, ◌==◌, nat_le, nat_lt, if◌then◌else◌, Option, Some, None, ℤ, pos, ◌-ℤ◌, refl, sym, ap, ◌∙◌, subst, arith, rules}
+use Rattle.std.proofs.lemmas.List.{take_all}
+use Rattle.std.proofs.lemmas.List.Sums.{fold-append}
+use Rattle.std.proofs.Math.Seq.{take-suc}
 use Rattle.dri_base.specs.declared.colour.Rgb.{Rgb}
 use Rattle.dri_base.specs.declared.colour.Pixel.{Pixel}
 use Rattle.dri_base.specs.declared.command.Command.{Command}
@@ -14,7 +16,7 @@ use Rattle.dri_plane.specs.Grids.{Grid, Becomes, in_rect, is_place}
 use Rattle.dri_plane.proofs.Planes.{plane_same}
 use Rattle.dri_meaning.specs.PlainScripts.{drawn_plainly}
 use Rattle.dri_meaning.proofs.PlainDraws.{flat_fragment}
-use Rattle.dri_run.specs.Cards.{Cell, HoldsCells, after_command, changed_in}
+use Rattle.dri_run.specs.Cards.{Cell, HoldsCells, after_command, after_commands, changed_in}
 
 -- a part of a cell that is changed where so
 part_if : {A : Type 0} (part : Cell → A) (b : Bool) (new old : Cell) → (if b then part new else part old) ≡ part (if b then new else old)
@@ -43,15 +45,19 @@ changes part old new rect origin change f v wide high becomes same holds =
     rw (wide, high) (becomes (λ a b. part (f a b)) holds ∙ plane_same old.width old.height _ _ (λ x y lx ly.
         same x y ∙ part_if part (in_rect rect x y) (change (pos x -ℤ origin.x) (pos y -ℤ origin.y) (f x y)) (f x y)))
 
+-- the change that a command makes
+abbrev by_command : Command → ℤ → ℤ → Cell → Cell
+by_command command x y cell = after_command x y cell command
+
 -- a clear
 pub cleared : (front back new_back : Grid Rgb) (depth new_depth : Grid ℕ) (rect : ClipRect) (origin : Point) (colour : Rgb) (z : ℕ) (f : ℕ → ℕ → Cell)
     → new_back.width ≡ back.width → new_back.height ≡ back.height → new_depth.width ≡ depth.width → new_depth.height ≡ depth.height
     → Becomes back new_back (λ g x y. if in_rect rect x y then colour else g x y) → Becomes depth new_depth (λ g x y. if in_rect rect x y then z else g x y)
     → HoldsCells front back depth f → HoldsCells front new_back new_depth (changed_in rect origin (λ x y cell. after_command x y cell (Clear colour z)) f)
 cleared front back new_back depth new_depth rect origin colour z f bw bh dw dh becomes deepens holds = record {
-  shown = stays (λ c. c.front) front rect origin _ f (λ x y cell. refl) holds.shown;
-  drawn = changes (λ c. c.behind.colour) back new_back rect origin _ f _ bw bh becomes (λ x y. refl) holds.drawn;
-  deep = changes (λ c. c.behind.depth) depth new_depth rect origin _ f _ dw dh deepens (λ x y. refl) holds.deep;
+  shown = stays (λ c. c.front) front rect origin (by_command (Clear colour z)) f (λ x y cell. refl) holds.shown;
+  drawn = changes (λ c. c.behind.colour) back new_back rect origin (by_command (Clear colour z)) f _ bw bh becomes (λ x y. refl) holds.drawn;
+  deep = changes (λ c. c.behind.depth) depth new_depth rect origin (by_command (Clear colour z)) f _ dw dh deepens (λ x y. refl) holds.deep;
 }
 
 -- a swap
@@ -60,9 +66,9 @@ pub swapped : (front new_front back : Grid Rgb) (depth : Grid ℕ) (rect : ClipR
     → ((source : ℕ → ℕ → Rgb) → back.pixels ≡ plane back.width back.height source → Becomes front new_front (λ g x y. if in_rect rect x y then source x y else g x y))
     → HoldsCells front back depth f → HoldsCells new_front back depth (changed_in rect origin (λ x y cell. after_command x y cell Swap) f)
 swapped front new_front back depth rect origin f wide high copies holds = record {
-  shown = changes (λ c. c.front) front new_front rect origin _ f _ wide high (copies (λ x y. (f x y).behind.colour) holds.drawn) (λ x y. refl) holds.shown;
-  drawn = stays (λ c. c.behind.colour) back rect origin _ f (λ x y cell. refl) holds.drawn;
-  deep = stays (λ c. c.behind.depth) depth rect origin _ f (λ x y cell. refl) holds.deep;
+  shown = changes (λ c. c.front) front new_front rect origin (by_command Swap) f _ wide high (copies (λ x y. (f x y).behind.colour) holds.drawn) (λ x y. refl) holds.shown;
+  drawn = stays (λ c. c.behind.colour) back rect origin (by_command Swap) f (λ x y cell. refl) holds.drawn;
+  deep = stays (λ c. c.behind.depth) depth rect origin (by_command Swap) f (λ x y cell. refl) holds.deep;
 }
 
 -- the colour of a flat triangle
@@ -97,11 +103,11 @@ pub triangled : (front back new_back : Grid Rgb) (depth : Grid ℕ) (rect : Clip
     → Becomes back new_back (λ g x y. if in_rect rect x y && covers t (pos x -ℤ origin.x) (pos y -ℤ origin.y) then flat_colour t else g x y)
     → HoldsCells front back depth f → HoldsCells front new_back depth (changed_in rect origin (λ x y cell. after_command x y cell (DrawTriangle t)) f)
 triangled front back new_back depth rect origin t f wide high becomes holds = record {
-  shown = stays (λ c. c.front) front rect origin _ f (λ x y cell. refl) holds.shown;
-  drawn = changes (λ c. c.behind.colour) back new_back rect origin _ f _ wide high becomes
+  shown = stays (λ c. c.front) front rect origin (by_command (DrawTriangle t)) f (λ x y cell. refl) holds.shown;
+  drawn = changes (λ c. c.behind.colour) back new_back rect origin (by_command (DrawTriangle t)) f _ wide high becomes
       (λ x y. both (in_rect rect x y) (covers t (pos x -ℤ origin.x) (pos y -ℤ origin.y)) (flat_colour t) (f x y).behind.colour
           ∙ in_branch (in_rect rect x y) _ _ (f x y).behind.colour (sym (colour_left t (pos x -ℤ origin.x) (pos y -ℤ origin.y) (f x y).behind))) holds.drawn;
-  deep = stays (λ c. c.behind.depth) depth rect origin _ f (λ x y cell. depth_left t x y cell.behind) holds.deep;
+  deep = stays (λ c. c.behind.depth) depth rect origin (by_command (DrawTriangle t)) f (λ x y cell. depth_left t x y cell.behind) holds.deep;
 }
 
 -- a triangle that covers nothing
@@ -109,9 +115,9 @@ pub untouched : (front back : Grid Rgb) (depth : Grid ℕ) (rect : ClipRect) (or
     → ((x y : ℤ) → covers t x y ≡ false)
     → HoldsCells front back depth f → HoldsCells front back depth (changed_in rect origin (λ x y cell. after_command x y cell (DrawTriangle t)) f)
 untouched front back depth rect origin t f none holds = record {
-  shown = stays (λ c. c.front) front rect origin _ f (λ x y cell. refl) holds.shown;
-  drawn = stays (λ c. c.behind.colour) back rect origin _ f (λ x y cell. sym (colour_left t x y cell.behind ∙ ap (λ b. if b then flat_colour t else cell.behind.colour) (none x y))) holds.drawn;
-  deep = stays (λ c. c.behind.depth) depth rect origin _ f (λ x y cell. depth_left t x y cell.behind) holds.deep;
+  shown = stays (λ c. c.front) front rect origin (by_command (DrawTriangle t)) f (λ x y cell. refl) holds.shown;
+  drawn = stays (λ c. c.behind.colour) back rect origin (by_command (DrawTriangle t)) f (λ x y cell. sym (colour_left t x y cell.behind ∙ ap (λ b. if b then flat_colour t else cell.behind.colour) (none x y))) holds.drawn;
+  deep = stays (λ c. c.behind.depth) depth rect origin (by_command (DrawTriangle t)) f (λ x y cell. depth_left t x y cell.behind) holds.deep;
 }
 
 -- a change that leaves every cell as it is
@@ -140,17 +146,18 @@ changed_twice rect origin first second both f same x y = by_rect (in_rect rect x
   by_rect true = same _ _ (f x y)
   by_rect false = refl
 
--- a row's place that is drawn, and the place that the next turn draws too
-pub row_more : {A : Type 0} (g mid new : Grid A) (x1 x y : ℕ) (colour : A) (cover : ℕ → ℕ → Bool)
-    → mid.width ≡ g.width → mid.height ≡ g.height → x1 ≤ x
-    → Becomes g mid (λ f a b. if ((b == y) && (nat_le x1 a && nat_lt a x)) && cover a b then colour else f a b)
-    → cover x y ≡ true → Becomes mid new (λ f a b. if is_place x y a b then colour else f a b)
-    → Becomes g new (λ f a b. if ((b == y) && (nat_le x1 a && nat_lt a (x + 1))) && cover a b then colour else f a b)
-row_more g mid new x1 x y colour cover wide high from so_far covered puts f holds =
-    subst (λ w. new.pixels ≡ plane w g.height _) wide (subst (λ h. new.pixels ≡ plane mid.width h _) high
-        (puts _ (subst (λ w. mid.pixels ≡ plane w mid.height _) (sym wide) (subst (λ h. mid.pixels ≡ plane g.width h _) (sym high) (so_far f holds)))))
-    ∙ plane_same g.width g.height _ _ (λ a b la lb. at a b)
-  where
-    at : (a b : ℕ) → (if is_place x y a b then colour else (if ((b == y) && (nat_le x1 a && nat_lt a x)) && cover a b then colour else f a b))
-        ≡ (if ((b == y) && (nat_le x1 a && nat_lt a (x + 1))) && cover a b then colour else f a b)
-    at a b = grind (arith, nat_tests)
+
+-- one command more
+pub run_more : (front back : Grid Rgb) (depth : Grid ℕ) (rect : ClipRect) (origin : Point) (cs : List Command) (i : ℕ) (d : Command) (f : ℕ → ℕ → Cell) → i < length cs
+    → HoldsCells front back depth (changed_in rect origin (λ x y cell. after_command x y cell (get_or cs i d)) (changed_in rect origin (λ x y cell. after_commands x y cell (take i cs)) f))
+    → HoldsCells front back depth (changed_in rect origin (λ x y cell. after_commands x y cell (take (i + 1) cs)) f)
+run_more front back depth rect origin cs i d f within holds =
+    same_cells front back depth _ _ (changed_twice rect origin (λ x y cell. after_commands x y cell (take i cs)) (λ x y cell. after_command x y cell (get_or cs i d)) (λ x y cell. after_commands x y cell (take (i + 1) cs)) f
+        (λ x y cell. sym (rw (add-one i, take-suc cs i d within) (fold-append (after_command x y) cell (take i cs) (get_or cs i d ∷ []))))) holds
+
+-- all of them
+pub run_end : (front back : Grid Rgb) (depth : Grid ℕ) (rect : ClipRect) (origin : Point) (cs : List Command) (i : ℕ) (f : ℕ → ℕ → Cell) → length cs ≤ i
+    → HoldsCells front back depth (changed_in rect origin (λ x y cell. after_commands x y cell (take i cs)) f)
+    → HoldsCells front back depth (changed_in rect origin (λ x y cell. after_commands x y cell cs) f)
+run_end front back depth rect origin cs i f all holds =
+    subst (λ xs. HoldsCells front back depth (changed_in rect origin (λ x y cell. after_commands x y cell xs) f)) (take_all i cs all) holds

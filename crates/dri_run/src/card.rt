@@ -6,7 +6,7 @@ ghost use Rattle.std.specs.Prelude.{◌≡◌, ◌≤◌, ◌<◌, ℕ, ◌&&◌
 ghost use Rattle.dri_base.specs.Coverage.{covers};
 ghost use Rattle.dri_base.specs.Ranges.{TriangleInRange, IsSide};
 ghost use Rattle.dri_meaning.specs.PlainScripts.{IsPlain};
-ghost use Rattle.dri_plane.specs.Grids.{Becomes, IsInside, in_rect};
+ghost use Rattle.dri_plane.specs.Grids.{Becomes, IsInside, in_rect, is_place};
 ghost use Rattle.dri_run.specs.Cards.{Cell, HaveSides, HoldsCells, IsOrigin, after_command, after_commands, changed_in, opening_cell};
 
 use dri_base::{ClipRect, Command, OutOfMemory, Point, Rgb, Rgba, Steps, Triangle};
@@ -41,30 +41,48 @@ pub fn opening_card(
     Ok(Card { front, back, depth })
 }
 
-/// Draws a triangle's part of one row, from one column to another.
+/// Draws a triangle's part of one pixel of the screen.
+fn draw_pixel<L: Ledger>(
+    back: &mut Plane<Rgb>,
+    setup: &Setup,
+    colour: Rgb,
+    origin: Point,
+    x: u16,
+    y: u16,
+    steps: &mut Steps<L>,
+)
+    requires origin { IsOrigin origin }
+    requires column { (x < back.old.width) × (x < 1024) }
+    requires row { (y < back.old.height) × (y < 1024) }
+    ensures width { back.new.width ≡ back.old.width }
+    ensures height { back.new.height ≡ back.old.height }
+    ensures pixels { Becomes back.old back.new (λ f a b. if is_place x y a b && covers setup.now (pos a -ℤ origin.x) (pos b -ℤ origin.y) then colour else f a b) }
+{
+    if setup.covers(i32::from(x) - origin.x, i32::from(y) - origin.y) {
+        back.put(u32::from(x), u32::from(y), colour, steps);
+    }
+}
+
+/// Draws a triangle's part of one row, between the columns of a rectangle.
 fn draw_row<L: Ledger>(
     back: &mut Plane<Rgb>,
     setup: &Setup,
     colour: Rgb,
     origin: Point,
-    columns: &ClipRect,
+    rect: &ClipRect,
     y: u16,
     steps: &mut Steps<L>,
 )
     requires origin { IsOrigin origin }
-    requires inside { IsInside columns.now back.old.width back.old.height }
-    requires row { y < columns.now.y2 }
-    requires small { columns.now.x2 ≤ 1024 }
-    requires low { columns.now.y2 ≤ 1024 }
+    requires inside { IsInside rect.now back.old.width back.old.height }
+    requires row { y < rect.now.y2 }
+    requires small { (rect.now.x2 ≤ 1024) × (rect.now.y2 ≤ 1024) }
     ensures width { back.new.width ≡ back.old.width }
     ensures height { back.new.height ≡ back.old.height }
-    ensures pixels { Becomes back.old back.new (λ f a b. if ((b == y) && (nat_le columns.now.x1 a && nat_lt a columns.now.x2)) && covers setup.now (pos a -ℤ origin.x) (pos b -ℤ origin.y) then colour else f a b) }
+    ensures pixels { Becomes back.old back.new (λ f a b. if ((b == y) && (nat_le rect.now.x1 a && nat_lt a rect.now.x2)) && covers setup.now (pos a -ℤ origin.x) (pos b -ℤ origin.y) then colour else f a b) }
 {
-    let line = i32::from(y) - origin.y;
-    for x in columns.x1..columns.x2 {
-        if setup.covers(i32::from(x) - origin.x, line) {
-            back.put(u32::from(x), u32::from(y), colour, steps);
-        }
+    for x in rect.x1..rect.x2 {
+        draw_pixel(back, setup, colour, origin, x, y, steps);
     }
 }
 
@@ -79,8 +97,7 @@ fn draw<L: Ledger>(
 )
     requires origin { IsOrigin origin }
     requires inside { IsInside rect.now back.old.width back.old.height }
-    requires small { rect.now.x2 ≤ 1024 }
-    requires low { rect.now.y2 ≤ 1024 }
+    requires small { (rect.now.x2 ≤ 1024) × (rect.now.y2 ≤ 1024) }
     ensures width { back.new.width ≡ back.old.width }
     ensures height { back.new.height ≡ back.old.height }
     ensures pixels { Becomes back.old back.new (λ f a b. if in_rect rect.now a b && covers setup.now (pos a -ℤ origin.x) (pos b -ℤ origin.y) then colour else f a b) }
@@ -174,7 +191,9 @@ fn run<L: Ledger>(
         Command::Clear { colour, depth } => clear(card, *colour, *depth, origin, rect, steps),
         Command::Triangle(t) => triangle(card, t, origin, rect, steps),
         Command::Swap => swap(card, origin, rect, steps),
-        _ => {}
+        Command::Set(_) => {}
+        Command::Yield => {}
+        Command::Die => {}
     }
 }
 
