@@ -1,18 +1,18 @@
 -- What each command makes of the card's cells.
-use Rattle.std.proofs.Common.{◌≡◌, ℕ, ◌+◌, ◌<◌, ◌≤◌, List, [], ◌∷◌, ◌++◌, take, fold, length, get_or, add-one, Bool, true, false, ◌&&◌, ◌==◌, nat_le, nat_lt, if◌then◌else◌, Option, Some, None, ℤ, pos, ◌-ℤ◌, refl, sym, ap, ◌∙◌, subst, arith, rules}
+use Rattle.std.proofs.Common.{◌≡◌, ℕ, ◌+◌, ◌<◌, ◌≤◌, List, [], ◌∷◌, take, length, get_or, add-one, Bool, true, false, ◌&&◌, if◌then◌else◌, Some, ℤ, pos, ◌-ℤ◌, refl, sym, ap, ◌∙◌, subst}
 use Rattle.std.proofs.lemmas.List.{take_all}
 use Rattle.std.proofs.lemmas.List.Sums.{fold-append}
 use Rattle.std.proofs.Math.Seq.{take-suc}
 use Rattle.dri_base.specs.declared.colour.Rgb.{Rgb}
 use Rattle.dri_base.specs.declared.colour.Pixel.{Pixel}
 use Rattle.dri_base.specs.declared.command.Command.{Command}
-use Rattle.dri_base.specs.declared.command.Command.TheVariants.{Set, Clear, Triangle as DrawTriangle, Swap, Yield, Die}
+use Rattle.dri_base.specs.declared.command.Command.TheVariants.{Clear, Triangle as DrawTriangle, Swap}
 use Rattle.dri_base.specs.declared.shape.ClipRect.{ClipRect}
 use Rattle.dri_base.specs.declared.shape.Point.{Point}
 use Rattle.dri_base.specs.declared.shape.Triangle.{Triangle}
 use Rattle.dri_base.specs.Coverage.{covers}
 use Rattle.dri_base.specs.Planes.{plane}
-use Rattle.dri_plane.specs.Grids.{Grid, Becomes, in_rect, is_place}
+use Rattle.dri_plane.specs.Grids.{Grid, Becomes, in_rect}
 use Rattle.dri_plane.proofs.Planes.{plane_same}
 use Rattle.dri_meaning.specs.PlainScripts.{drawn_plainly}
 use Rattle.dri_meaning.proofs.PlainDraws.{flat_fragment}
@@ -43,7 +43,7 @@ changes : {A : Type 0} (part : Cell → A) (old new : Grid A) (rect : ClipRect) 
     → new.pixels ≡ plane new.width new.height (λ x y. part (changed_in rect origin change f x y))
 changes part old new rect origin change f v wide high becomes same holds =
     rw (wide, high) (becomes (λ a b. part (f a b)) holds ∙ plane_same old.width old.height _ _ (λ x y lx ly.
-        same x y ∙ part_if part (in_rect rect x y) (change (pos x -ℤ origin.x) (pos y -ℤ origin.y) (f x y)) (f x y)))
+    same x y ∙ part_if part (in_rect rect x y) (change (pos x -ℤ origin.x) (pos y -ℤ origin.y) (f x y)) (f x y)))
 
 -- the change that a command makes
 abbrev by_command : Command → ℤ → ℤ → Cell → Cell
@@ -106,7 +106,7 @@ triangled front back new_back depth rect origin t f wide high becomes holds = re
   shown = stays (λ c. c.front) front rect origin (by_command (DrawTriangle t)) f (λ x y cell. refl) holds.shown;
   drawn = changes (λ c. c.behind.colour) back new_back rect origin (by_command (DrawTriangle t)) f _ wide high becomes
       (λ x y. both (in_rect rect x y) (covers t (pos x -ℤ origin.x) (pos y -ℤ origin.y)) (flat_colour t) (f x y).behind.colour
-          ∙ in_branch (in_rect rect x y) _ _ (f x y).behind.colour (sym (colour_left t (pos x -ℤ origin.x) (pos y -ℤ origin.y) (f x y).behind))) holds.drawn;
+      ∙ in_branch (in_rect rect x y) _ _ (f x y).behind.colour (sym (colour_left t (pos x -ℤ origin.x) (pos y -ℤ origin.y) (f x y).behind))) holds.drawn;
   deep = stays (λ c. c.behind.depth) depth rect origin (by_command (DrawTriangle t)) f (λ x y cell. depth_left t x y cell.behind) holds.deep;
 }
 
@@ -146,14 +146,13 @@ changed_twice rect origin first second both f same x y = by_rect (in_rect rect x
   by_rect true = same _ _ (f x y)
   by_rect false = refl
 
-
 -- one command more
 pub run_more : (front back : Grid Rgb) (depth : Grid ℕ) (rect : ClipRect) (origin : Point) (cs : List Command) (i : ℕ) (d : Command) (f : ℕ → ℕ → Cell) → i < length cs
     → HoldsCells front back depth (changed_in rect origin (λ x y cell. after_command x y cell (get_or cs i d)) (changed_in rect origin (λ x y cell. after_commands x y cell (take i cs)) f))
     → HoldsCells front back depth (changed_in rect origin (λ x y cell. after_commands x y cell (take (i + 1) cs)) f)
 run_more front back depth rect origin cs i d f within holds =
     same_cells front back depth _ _ (changed_twice rect origin (λ x y cell. after_commands x y cell (take i cs)) (λ x y cell. after_command x y cell (get_or cs i d)) (λ x y cell. after_commands x y cell (take (i + 1) cs)) f
-        (λ x y cell. sym (rw (add-one i, take-suc cs i d within) (fold-append (after_command x y) cell (take i cs) (get_or cs i d ∷ []))))) holds
+    (λ x y cell. sym (rw (add-one i, take-suc cs i d within) (fold-append (after_command x y) cell (take i cs) (get_or cs i d ∷ []))))) holds
 
 -- all of them
 pub run_end : (front back : Grid Rgb) (depth : Grid ℕ) (rect : ClipRect) (origin : Point) (cs : List Command) (i : ℕ) (f : ℕ → ℕ → Cell) → length cs ≤ i

@@ -1,3 +1,6 @@
 pub mod Soundness
 pub mod RowLemmas
 pub mod CardLemmas
+pub mod Visible
+pub mod OneFrames
+pub mod ShownFrames

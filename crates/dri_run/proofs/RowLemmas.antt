@@ -1,5 +1,5 @@
 -- Pixels, rows and rectangles of a plane, drawn one after another.
-use Rattle.std.proofs.Common.{◌≡◌, ℕ, ◌+◌, ◌<◌, ◌≤◌, Bool, true, false, ◌&&◌, ◌==◌, nat_le, nat_lt, if◌then◌else◌, refl, sym, ap, ◌∙◌, subst, arith}
+use Rattle.std.proofs.Common.{◌≡◌, ℕ, ◌+◌, ◌≤◌, Bool, true, false, ◌&&◌, ◌==◌, nat_le, nat_lt, if◌then◌else◌, refl, sym, ◌∙◌, subst, arith}
 use Rattle.std.proofs.lemmas.Bool.Decides.{nat_tests}
 use Rattle.std.proofs.lemmas.Bool.{eqb-true}
 use Rattle.dri_base.specs.Planes.{plane}
@@ -11,7 +11,7 @@ becomes_twice : {A : Type 0} (g mid new : Grid A) (first second both : (ℕ → 
     → ((f : ℕ → ℕ → A) (a b : ℕ) → second (first f) a b ≡ both f a b) → Becomes g new both
 becomes_twice g mid new first second both wide high one two same f holds =
     subst (λ w. new.pixels ≡ plane w g.height (second (first f))) wide (subst (λ h. new.pixels ≡ plane mid.width h (second (first f))) high
-        (two (first f) (subst (λ w. mid.pixels ≡ plane w mid.height (first f)) (sym wide) (subst (λ h. mid.pixels ≡ plane g.width h (first f)) (sym high) (one f holds)))))
+    (two (first f) (subst (λ w. mid.pixels ≡ plane w mid.height (first f)) (sym wide) (subst (λ h. mid.pixels ≡ plane g.width h (first f)) (sym high) (one f holds)))))
     ∙ plane_same g.width g.height _ _ (λ a b la lb. same f a b)
 
 -- the columns of a row before x, and x
@@ -54,7 +54,7 @@ pub pixel_drawn : {A : Type 0} (g new : Grid A) (x y column row : ℕ) (colour :
     → Becomes g new (λ f a b. if is_place column row a b then colour else f a b) → Becomes g new (λ f a b. if is_place x y a b && cover a b then colour else f a b)
 pixel_drawn g new x y column row colour cover covered ex ey becomes f holds =
     subst (λ c. new.pixels ≡ plane g.width g.height (λ a b. if is_place c y a b then colour else f a b)) ex
-        (subst (λ r. new.pixels ≡ plane g.width g.height (λ a b. if is_place column r a b then colour else f a b)) ey (becomes f holds))
+    (subst (λ r. new.pixels ≡ plane g.width g.height (λ a b. if is_place column r a b then colour else f a b)) ey (becomes f holds))
     ∙ plane_same g.width g.height _ _ (λ a b la lb. where_covered (a == x) (b == y) (cover a b) colour (f a b) (cover_at cover x y a b true covered))
 
 -- a pixel that isn't

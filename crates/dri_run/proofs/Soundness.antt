@@ -1,5 +1,5 @@
 -- Lines that are allowed keep a reading sound.
-use Rattle.std.proofs.Common.{◌≡◌, ℕ, List, [], ◌∷◌, ◌++◌, All, map, subst, sym, ap, refl, ◌∙◌, arith, rules}
+use Rattle.std.proofs.Common.{◌≡◌, ℕ, List, [], ◌∷◌, ◌++◌, All, map, subst, sym, ap, refl, rules}
 use Rattle.std.proofs.lemmas.List.Elements.{All-push}
 use Rattle.dri_base.specs.declared.colour.Rgb.{Rgb}
 use Rattle.dri_base.specs.declared.command.Command.{Command}
@@ -8,7 +8,6 @@ use Rattle.dri_base.specs.declared.scene.ClientScript.{ClientScript}
 use Rattle.dri_base.specs.declared.scene.Window.{Window}
 use Rattle.dri_base.specs.declared.shape.Triangle.{Triangle}
 use Rattle.dri_base.specs.Ranges.{WindowInRange, TriangleInRange}
-use Rattle.dri_run.specs.declared.reading.Place.{Place}
 use Rattle.dri_run.specs.declared.reading.Place.TheVariants as places
 use Rattle.dri_run.specs.declared.reading.Reading.{Reading}
 use Rattle.dri_run.specs.Shapes.{IsBegun, IsOneFrame, IsSized, IsBlock, IsSound}

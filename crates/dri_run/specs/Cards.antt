@@ -1,5 +1,5 @@
 -- What the card holds at one place, and what a command makes of it.
-use Rattle.std.specs.Prelude.{ℕ, ◌≡◌, List, fold, Bool, ◌&&◌, if◌then◌else◌, Option, Some, None, ℤ, pos, ◌-ℤ◌, ◌≤ℤ◌, neg_ℤ}
+use Rattle.std.specs.Prelude.{ℕ, ◌≡◌, List, fold, if◌then◌else◌, Some, ℤ, pos, ◌-ℤ◌, ◌≤ℤ◌, neg_ℤ}
 use Rattle.dri_base.specs.declared.colour.Rgb.{Rgb}
 use Rattle.dri_base.specs.declared.colour.Pixel.{Pixel}
 use Rattle.dri_base.specs.declared.command.Command.{Command}

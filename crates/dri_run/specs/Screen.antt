@@ -1,5 +1,5 @@
 -- What the screen shows once the scene's one frame was drawn.
-use Rattle.std.specs.Prelude.{ℕ, List, [], ◌∷◌, Bool, if◌then◌else◌, Option, Some, None, pos, ◌-ℤ◌, unwrap_or}
+use Rattle.std.specs.Prelude.{ℕ, List, [], ◌∷◌, if◌then◌else◌, ℤ, pos, negsuc, ◌-ℤ◌, min, unwrap_or}
 use Rattle.dri_base.specs.declared.colour.Rgb.{Rgb}
 use Rattle.dri_base.specs.declared.scene.Scene.{Scene}
 use Rattle.dri_base.specs.declared.scene.Window.{Window}
@@ -8,6 +8,11 @@ use Rattle.dri_base.specs.Planes.{plane}
 use Rattle.dri_model.specs.Stacks.{has_pixel}
 use Rattle.dri_meaning.specs.Solo.{solo_frame}
 use Rattle.dri_run.specs.Ppm.{ppm}
+
+-- the nearest of the numbers from 0 to a side
+abbrev pub clamped : ℤ → ℕ → ℕ
+clamped (pos n) side = min n side
+clamped (negsuc n) side = 0
 
 -- the frame drawn alone, at a screen pixel less the window's corner
 abbrev pub frame_shown : Rgb → Window → ClientScript → ℕ → ℕ → Rgb

@@ -4,7 +4,6 @@ use Rattle.dri_base.specs.declared.colour.Rgb.{Rgb}
 use Rattle.dri_base.specs.declared.command.Command.{Command}
 use Rattle.dri_base.specs.declared.command.Command.TheVariants as commands
 use Rattle.dri_base.specs.declared.scene.Scene.{Scene}
-use Rattle.dri_base.specs.declared.scene.ClientScript.{ClientScript}
 use Rattle.dri_base.specs.declared.shape.Triangle.{Triangle}
 use Rattle.dri_base.specs.Ranges.{IsSide, WindowInRange, TriangleInRange}
 use Rattle.dri_run.specs.declared.line.Line.{Line}

@@ -24,12 +24,7 @@ pub struct Card {
 }
 
 /// The opening card: the root colour in front, black behind it, as deep as can be.
-pub fn opening_card(
-    alloc: Global,
-    width: u32,
-    height: u32,
-    root: Rgb,
-) -> Result<Card, OutOfMemory>
+pub fn opening_card(alloc: Global, width: u32, height: u32, root: Rgb) -> Result<Card, OutOfMemory>
     requires wide { IsSide width }
     requires high { IsSide height }
     ensures sides { IfOk result (λ c. HaveSides c.front c.back c.depth width height) }
@@ -148,14 +143,7 @@ fn triangle<L: Ledger>(
         return;
     };
     let Rgba { r, g, b, .. } = triangle.c.colour;
-    draw(
-        &mut card.back,
-        &setup,
-        Rgb { r, g, b },
-        origin,
-        rect,
-        steps,
-    );
+    draw(&mut card.back, &setup, Rgb { r, g, b }, origin, rect, steps);
 }
 
 /// Copies a rectangle of the card from back to front.

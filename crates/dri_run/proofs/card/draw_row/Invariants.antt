@@ -1,5 +1,5 @@
 -- The columns so far.
-use Rattle.std.proofs.Common.{◌≡◌, ◌&&◌, ◌==◌, ◌≤◌, nat_le, nat_lt, pos, ◌-ℤ◌, if◌then◌else◌}
+use Rattle.std.proofs.Common.{◌≡◌, ◌&&◌, ◌==◌, nat_le, nat_lt, pos, ◌-ℤ◌, if◌then◌else◌}
 use Rattle.dri_base.specs.Coverage.{covers}
 use Rattle.dri_plane.specs.Grids.{Becomes}
 use Rattle.dri_run.proofs.card.draw_row.Given as goal

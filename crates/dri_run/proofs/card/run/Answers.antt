@@ -1,6 +1,5 @@
 -- Each command by its own call.
-use Rattle.std.proofs.Common.{◌≡◌, sym, subst, refl}
-use Rattle.dri_base.specs.declared.command.Command.{Command}
+use Rattle.std.proofs.Common.{sym, subst, refl}
 use Rattle.dri_base.specs.declared.command.Command.TheVariants as command
 use Rattle.dri_meaning.specs.PlainScripts.{IsPlain}
 use Rattle.dri_run.specs.Cards.{HoldsCells, after_command, changed_in}
@@ -26,10 +25,10 @@ pub returns-in-Yield-clause-cells : goal.returns-in-Yield-clause-cells
 returns-in-Yield-clause-cells g c =
     let card = c.args.card.now in
     λ f holds. subst (λ k. HoldsCells card.front card.back card.depth (changed_in c.args.rect.now c.args.origin (λ x y cell. after_command x y cell k) f)) (sym c.in-Yield.is)
-        (unchanged card.front card.back card.depth c.args.rect.now c.args.origin (λ x y cell. after_command x y cell command.Yield) f (λ x y cell. refl) holds)
+    (unchanged card.front card.back card.depth c.args.rect.now c.args.origin (λ x y cell. after_command x y cell command.Yield) f (λ x y cell. refl) holds)
 
 pub returns-in-Die-clause-cells : goal.returns-in-Die-clause-cells
 returns-in-Die-clause-cells g c =
     let card = c.args.card.now in
     λ f holds. subst (λ k. HoldsCells card.front card.back card.depth (changed_in c.args.rect.now c.args.origin (λ x y cell. after_command x y cell k) f)) (sym c.in-Die.is)
-        (unchanged card.front card.back card.depth c.args.rect.now c.args.origin (λ x y cell. after_command x y cell command.Die) f (λ x y cell. refl) holds)
+    (unchanged card.front card.back card.depth c.args.rect.now c.args.origin (λ x y cell. after_command x y cell command.Die) f (λ x y cell. refl) holds)

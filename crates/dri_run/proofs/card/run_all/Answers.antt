@@ -1,6 +1,5 @@
 -- One command more, and all.
 use Rattle.std.proofs.Common.{rules, arith}
-use Rattle.dri_run.specs.Cards.{after_commands, changed_in}
 use Rattle.dri_run.proofs.CardLemmas.{run_more, run_end}
 use Rattle.dri_run.proofs.card.run_all.Goals as goal
 

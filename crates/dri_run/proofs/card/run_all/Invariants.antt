@@ -1,5 +1,5 @@
 -- The commands so far.
-use Rattle.std.proofs.Common.{◌≡◌, ℕ, take}
+use Rattle.std.proofs.Common.{ℕ, take}
 use Rattle.dri_run.specs.Cards.{Cell, HaveSides, HoldsCells, after_commands, changed_in}
 use Rattle.dri_run.proofs.card.run_all.Given as goal
 

@@ -1,5 +1,5 @@
 -- The one word is spelled so.
-use Rattle.std.proofs.Common.{◌≡◌, ℕ, ◌∙◌, List, [], ◌∷◌, String, Global, length, get_or, map, sym, ap, rules, arith}
+use Rattle.std.proofs.Common.{◌≡◌, ℕ, ◌∙◌, List, [], ◌∷◌, String, Global, length, get_or, map, sym, ap, arith}
 use Rattle.std.specs.String.{string_bytes}
 use Rattle.std.proofs.lemmas.Slice.Eq.{bytes_eq-Decides}
 use Rattle.dri_run.proofs.top.is_turns.Goals as goal
@@ -18,8 +18,7 @@ heads x y same = ap (λ xs. first xs) same where
 
 pub returns-in-len1 : goal.returns-in-len1
 returns-in-len1 c =
-    let spelled = one_word c.args.words.now c.word-item.result (omega arith) c.word-item.is in
-    (
+    let spelled = one_word c.args.words.now c.word-item.result (omega arith) c.word-item.is in (
       λ yes. spelled ∙ ap (λ bytes. bytes ∷ []) (sym c.as_str.ensures.value ∙ (bytes_eq-Decides _ _).0 (sym c.eq.ensures ∙ yes)),
       λ form. c.eq.ensures ∙ (bytes_eq-Decides _ _).1 (c.as_str.ensures.value ∙ heads _ _ (sym spelled ∙ form)),
     )
