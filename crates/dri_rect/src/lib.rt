@@ -14,7 +14,6 @@ mod bands;
 mod operation;
 mod region;
 mod rows;
-
 #[cfg(test)]
 mod tests;
 
