@@ -1,7 +1,7 @@
 ghost use Rattle.std.specs.Prelude.{◌≡◌, [], ◌≤ℤ◌, ◌-ℤ◌, ℤ, ◌&&◌, ◌||◌, not, IfOk, length, ◌<◌, slice_get, Some};
 ghost use Rattle.std.specs.List.{AllByRecursion, All, AllPairs};
 ghost use Rattle.dri_rect.specs.Pixels.{has_pixel, inside, SamePixels, IsInRange, IsProper, ComesBefore, IsApart, StaysInRange, shift, moved};
-ghost use Rattle.dri_rect.specs.Walk.{Movable};
+ghost use Rattle.dri_rect.specs.Walk.{Movable, answer};
 
 use crate::bands::combine;
 use crate::operation::Operation;
@@ -114,46 +114,43 @@ impl Region {
         })
     }
 
+    /// The pixels that the operation takes of the two sets.
+    fn combined(
+        &self,
+        alloc: Global,
+        operation: Operation,
+        other: &Region,
+    ) -> Result<Region, OutOfMemory>
+        ensures { IfOk result (λ region. (x y : ℤ) → inside region x y ≡ answer operation (inside self.now x y) (inside other.now x y)) }
+    {
+        let rects = combine(
+            alloc,
+            operation,
+            self.rects.as_slice(),
+            other.rects.as_slice(),
+        )?;
+        Ok(Region { rects })
+    }
+
     /// The pixels of either set.
     pub fn unite(&self, alloc: Global, other: &Region) -> Result<Region, OutOfMemory>
         ensures { IfOk result (λ region. (x y : ℤ) → inside region x y ≡ (inside self.now x y || inside other.now x y)) }
     {
-        Ok(Region {
-            rects: combine(
-                alloc,
-                Operation::Unite,
-                self.rects.as_slice(),
-                other.rects.as_slice(),
-            )?,
-        })
+        self.combined(alloc, Operation::Unite, other)
     }
 
     /// The pixels of this set that aren't in the other.
     pub fn subtract(&self, alloc: Global, other: &Region) -> Result<Region, OutOfMemory>
         ensures { IfOk result (λ region. (x y : ℤ) → inside region x y ≡ (inside self.now x y && not (inside other.now x y))) }
     {
-        Ok(Region {
-            rects: combine(
-                alloc,
-                Operation::Subtract,
-                self.rects.as_slice(),
-                other.rects.as_slice(),
-            )?,
-        })
+        self.combined(alloc, Operation::Subtract, other)
     }
 
     /// The pixels of both sets.
     pub fn intersect(&self, alloc: Global, other: &Region) -> Result<Region, OutOfMemory>
         ensures { IfOk result (λ region. (x y : ℤ) → inside region x y ≡ (inside self.now x y && inside other.now x y)) }
     {
-        Ok(Region {
-            rects: combine(
-                alloc,
-                Operation::Intersect,
-                self.rects.as_slice(),
-                other.rects.as_slice(),
-            )?,
-        })
+        self.combined(alloc, Operation::Intersect, other)
     }
 
     /// The set, moved by dx to the right and dy down. Each moved pixel has to be one that a region may have.
