@@ -1,6 +1,6 @@
 -- How the rectangles of a region stand.
-use Rattle.std.proofs.Common.{◌≡◌, ℕ, zero, suc, ◌<◌, ◌⊎◌, length, get_or, List, [], ◌∷◌, Bool, true, false, arith, refl, sym, ◌∙◌, inl, inr}
-use Rattle.std.specs.Prelude.{ℤ, ◌<ℤ◌, ◌≤ℤ◌, ◌&&◌}
+use Rattle.std.proofs.Common.{zero, suc, List, [], ◌∷◌, arith, sym, inl, inr}
+use Rattle.std.specs.Prelude.{◌&&◌}
 use Rattle.std.specs.List.{AllByRecursion, AllPairs}
 use Rattle.std.proofs.lemmas.Int.{ints}
 use Rattle.std.proofs.lemmas.Bool.{and_parts}

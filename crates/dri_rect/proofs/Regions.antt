@@ -6,7 +6,7 @@ use Rattle.std.proofs.lemmas.Int.{ints, by_lt_z}
 use Rattle.std.proofs.lemmas.Bool.{true≢false}
 use Rattle.dri_base.specs.declared.shape.Rect.{Rect}
 use Rattle.dri_rect.proofs.Unique.{found}
-use Rattle.dri_rect.specs.Pixels.{In, in_columns, in_lines, has_pixel, inside, IsInRange, IsProper, Follows, IsBanded, StaysInRange, SameLine, IsTopped, SamePixels, moved, shift}
+use Rattle.dri_rect.specs.Pixels.{In, in_columns, in_lines, has_pixel, inside, IsInRange, IsProper, Follows, IsBanded, StaysInRange, SameLine, IsTopped, moved, shift}
 use Rattle.dri_rect.specs.Walk.{Fits, IsRegion, IsBands, rectangle, Movable}
 
 pub none_region : IsRegion []

@@ -24,11 +24,11 @@ inside (r ∷ rs) x y = has_pixel r x y || inside rs x y
 abbrev pub SamePixels : List Rect → List Rect → Type 0
 SamePixels rs ts = (x y : ℤ) → inside rs x y ≡ inside ts x y
 
--- the least and the greatest coordinate
+-- the least coordinate
 abbrev pub least : ℤ
 least = neg_ℤ (pos 4096)
 
--- the greatest
+-- the greatest coordinate
 abbrev pub most : ℤ
 most = pos 4096
 

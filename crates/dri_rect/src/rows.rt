@@ -1,14 +1,20 @@
-ghost use Rattle.std.specs.Prelude.{◌≡◌, [], ◌≤ℤ◌, OnOk, IfOk, IsTrue, ◌↔◌, true};
+//! The walk to the right over two rows of columns. A row is a list of rectangles from left to right that don't touch;
+//! their lines are not looked at, and what is written has the lines 0 to 1.
+
+ghost use Rattle.std.specs.Prelude.{◌≡◌, ◌≤ℤ◌, OnOk, IfOk};
 ghost use Rattle.dri_rect.specs.Pixels.{most};
 ghost use Rattle.dri_rect.specs.Walk.{IsRow, Ahead, Reaches, Stretch, Later, IsLesser, IsCombined, closed, opened, same_columns, both_empty};
 
 use crate::operation::Operation;
 use dri_base::{OutOfMemory, Rect};
 
+/// The least coordinate.
 pub const LEAST: i32 = -4096;
 
+/// A place behind every coordinate.
 pub const BEHIND: i32 = 4097;
 
+/// The lesser of two places.
 pub fn lesser(first: i32, second: i32) -> i32
     ensures { IsLesser first second result }
 {
@@ -22,8 +28,8 @@ pub fn is_over(left: &[Rect], right: &[Rect]) -> bool
     left.is_empty() && right.is_empty()
 }
 
-#[tactic(auto, using(crate::proofs::RowWalks::stretch_none, crate::proofs::RowWalks::stretch_in, crate::proofs::RowWalks::stretch_out))]
 /// Whether the column is in the row, and where this ends.
+#[tactic(auto, using(crate::proofs::RowWalks::stretch_none, crate::proofs::RowWalks::stretch_in, crate::proofs::RowWalks::stretch_out))]
 fn stretch(rects: &[Rect], x: i32) -> (bool, i32)
     requires is_row { IsRow rects.now }
     requires ahead { Ahead rects.now x }
@@ -42,8 +48,8 @@ fn stretch(rects: &[Rect], x: i32) -> (bool, i32)
     }
 }
 
-#[tactic(auto, using(crate::proofs::RowWalks::later_more, crate::proofs::RowWalks::later_same))]
 /// The row without what ends at the column or before.
+#[tactic(auto, using(crate::proofs::RowWalks::later_more, crate::proofs::RowWalks::later_same))]
 fn later(rects: &[Rect], x: i32) -> &[Rect]
     requires is_row { IsRow rects.now }
     requires reaches { Reaches rects.now x }

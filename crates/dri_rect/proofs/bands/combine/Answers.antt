@@ -1,4 +1,4 @@
-use Rattle.std.proofs.Common.{◌≡◌, ◌++◌, sym, ◌∙◌, w32, rules}
+use Rattle.std.proofs.Common.{◌≡◌, sym, ◌∙◌, w32, rules}
 use Rattle.std.specs.Prelude.{false, true}
 use Rattle.std.proofs.lemmas.Int.{to_z-of_z}
 use mir.Val.{SFits}
