@@ -1,0 +1,5 @@
+pub mod Unique
+pub mod RowWalks
+pub mod BandWalks
+pub mod Regions
+pub mod Arrangement

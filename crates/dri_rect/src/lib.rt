@@ -1,0 +1,20 @@
+//! Sets of pixels, and the set operations on them.
+//!
+//! A region is kept as the X server and pixman keep it, in y-x bands. Its rectangles stand in one list, in bands from
+//! top to bottom. The rectangles of a band have the same first and last line, and stand from left to right; they
+//! neither overlap nor touch. Two bands that touch are never equal in columns: they would be one band. So each set of
+//! pixels has exactly one list.
+//!
+//! Unite, subtract and intersect share one walk down the bands of both lists, which is linear in them. Where it comes to
+//! a line at which one of the two may change, it combines the rows of columns there, by a walk of the same shape to the
+//! right. The band that is written last is held back until the next one is known to differ.
+#![tactic(auto)]
+
+mod bands;
+mod operation;
+mod region;
+mod rows;
+#[cfg(test)]
+mod tests;
+
+pub use region::Region;

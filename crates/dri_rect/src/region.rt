@@ -1,0 +1,207 @@
+ghost use Rattle.std.specs.Prelude.{◌≡◌, [], ◌≤ℤ◌, ◌-ℤ◌, ℤ, ◌&&◌, ◌||◌, not, IfOk, length, ◌<◌, slice_get, Some};
+ghost use Rattle.std.specs.List.{AllByRecursion, All, AllPairs};
+ghost use Rattle.dri_rect.specs.Pixels.{has_pixel, inside, SamePixels, IsInRange, IsProper, ComesBefore, IsApart, StaysInRange, shift, moved};
+ghost use Rattle.dri_rect.specs.Walk.{Movable, answer};
+
+use crate::bands::combine;
+use crate::operation::Operation;
+use dri_base::{OutOfMemory, Rect};
+use std::alloc::Global;
+use std::marker::Model;
+
+/// A set of pixels with coordinates from -4,096 to 4,096. Contracts see it as its rectangles, of which there is one list
+/// for each set.
+#[derive(Debug, Drop)]
+pub struct Region {
+    rects: Vec<Rect>,
+}
+
+impl Model for Region {
+    ghost use Rattle.std.specs.Prelude.{List};
+    ghost use Rattle.dri_base.specs.declared.shape.Rect.{Rect};
+
+    ghost Value = { List Rect };
+
+    ghost use Rattle.dri_rect.specs.Walk.{IsRegion};
+
+    ghost view = { λ it. it.rects.items };
+
+    ghost invariant = { λ it. IsRegion it.rects.items };
+}
+
+/// Whether the rectangle has the pixel.
+fn is_within(rect: &Rect, x: i32, y: i32) -> bool
+    ensures { result ≡ has_pixel rect.now x y }
+{
+    if rect.y1 > y || y >= rect.y2 {
+        return false;
+    }
+    rect.x1 <= x && x < rect.x2
+}
+
+/// Whether one of the rectangles has the pixel.
+fn is_inside(rects: &[Rect], x: i32, y: i32) -> bool
+    ensures { result ≡ inside rects.now x y }
+{
+    let mut rest = rects;
+    while let Some((first, others)) = rest.split_first() {
+        if is_within(first, x, y) {
+            return true;
+        }
+        rest = others;
+    }
+    false
+}
+
+/// The rectangle, moved.
+fn move_one(rect: &Rect, dx: i32, dy: i32) -> Rect
+    requires { Movable dx dy rect.now }
+    ensures { result ≡ shift dx dy rect.now }
+{
+    Rect {
+        x1: rect.x1 + dx,
+        y1: rect.y1 + dy,
+        x2: rect.x2 + dx,
+        y2: rect.y2 + dy,
+    }
+}
+
+/// The rectangles, moved.
+fn move_all(alloc: Global, rects: &[Rect], dx: i32, dy: i32) -> Result<Vec<Rect>, OutOfMemory>
+    requires { AllByRecursion (Movable dx dy) rects.now }
+    ensures { IfOk result (λ out. out.items ≡ moved dx dy rects.now) }
+{
+    let mut out = Vec::with_capacity(alloc, rects.len())?;
+    for rect in rects {
+        out.push(move_one(rect, dx, dy))?;
+    }
+    Ok(out)
+}
+
+impl Region {
+    /// The set of no pixel. It takes no memory.
+    pub fn empty(alloc: Global) -> Region
+        ensures { result ≡ [] }
+    {
+        Region {
+            rects: Vec::new(alloc),
+        }
+    }
+
+    /// The pixels of a rectangle, whose numbers are in range. A rectangle without a pixel gives the empty set.
+    #[tactic(auto, using(crate::proofs::Regions::one_region, crate::proofs::Regions::no_pixels))]
+    pub fn of_rect(alloc: Global, rect: &Rect) -> Result<Region, OutOfMemory>
+        requires { IsInRange rect.now }
+        ensures { IfOk result (λ region. (x y : ℤ) → inside region x y ≡ has_pixel rect.now x y) }
+    {
+        if rect.x2 <= rect.x1 {
+            return Ok(Region::empty(alloc));
+        }
+        if rect.y2 <= rect.y1 {
+            return Ok(Region::empty(alloc));
+        }
+        let mut rects = Vec::with_capacity(alloc, 1)?;
+        rects.push(*rect)?;
+        Ok(Region { rects })
+    }
+
+    /// The same set.
+    pub fn copy(&self, alloc: Global) -> Result<Region, OutOfMemory>
+        ensures { IfOk result (λ region. region ≡ self.now) }
+    {
+        Ok(Region {
+            rects: Vec::from_slice(alloc, self.rects.as_slice())?,
+        })
+    }
+
+    /// The pixels that the operation takes of the two sets.
+    fn combined(
+        &self,
+        alloc: Global,
+        operation: Operation,
+        other: &Region,
+    ) -> Result<Region, OutOfMemory>
+        ensures { IfOk result (λ region. (x y : ℤ) → inside region x y ≡ answer operation (inside self.now x y) (inside other.now x y)) }
+    {
+        let rects = combine(
+            alloc,
+            operation,
+            self.rects.as_slice(),
+            other.rects.as_slice(),
+        )?;
+        Ok(Region { rects })
+    }
+
+    /// The pixels of either set.
+    pub fn unite(&self, alloc: Global, other: &Region) -> Result<Region, OutOfMemory>
+        ensures { IfOk result (λ region. (x y : ℤ) → inside region x y ≡ (inside self.now x y || inside other.now x y)) }
+    {
+        self.combined(alloc, Operation::Unite, other)
+    }
+
+    /// The pixels of this set that aren't in the other.
+    pub fn subtract(&self, alloc: Global, other: &Region) -> Result<Region, OutOfMemory>
+        ensures { IfOk result (λ region. (x y : ℤ) → inside region x y ≡ (inside self.now x y && not (inside other.now x y))) }
+    {
+        self.combined(alloc, Operation::Subtract, other)
+    }
+
+    /// The pixels of both sets.
+    pub fn intersect(&self, alloc: Global, other: &Region) -> Result<Region, OutOfMemory>
+        ensures { IfOk result (λ region. (x y : ℤ) → inside region x y ≡ (inside self.now x y && inside other.now x y)) }
+    {
+        self.combined(alloc, Operation::Intersect, other)
+    }
+
+    /// The set, moved by dx to the right and dy down. Each moved pixel has to be one that a region may have.
+    pub fn translate(&self, alloc: Global, dx: i32, dy: i32) -> Result<Region, OutOfMemory>
+        requires { StaysInRange dx dy self.now }
+        ensures rects { IfOk result (λ region. region ≡ moved dx dy self.now) }
+        ensures pixels { IfOk result (λ region. (x y : ℤ) → inside region x y ≡ inside self.now (x -ℤ dx) (y -ℤ dy)) }
+    {
+        Ok(Region {
+            rects: move_all(alloc, self.rects.as_slice(), dx, dy)?,
+        })
+    }
+
+    /// Whether the pixel is in the set.
+    pub fn contains(&self, x: i32, y: i32) -> bool
+        ensures { result ≡ inside self.now x y }
+    {
+        is_inside(self.rects.as_slice(), x, y)
+    }
+
+    /// How many rectangles there are.
+    pub fn len(&self) -> usize
+        ensures { result ≡ length self.now }
+    {
+        self.rects.len()
+    }
+
+    /// The rectangle at a place below the length, counted from 0. Rectangles come by y1, then by x1.
+    pub fn rect(&self, i: usize) -> Rect
+        requires { i < length self.now }
+        ensures { slice_get self.now i ≡ Some result }
+    {
+        self.rects[i]
+    }
+
+    /// Equal sets are equal lists. It does nothing: its contract is the law.
+    pub fn canonical(&self, other: &Region)
+        ensures { SamePixels self.now other.now → self.now ≡ other.now }
+    {
+        let _first = &self.rects;
+        let _second = &other.rects;
+    }
+
+    /// How the rectangles stand: by y1, then by x1; none is empty, no two share a pixel, and all are in range. It does
+    /// nothing: its contract is the law.
+    pub fn arranged(&self)
+        ensures order { AllPairs ComesBefore self.now }
+        ensures proper { AllByRecursion IsProper self.now }
+        ensures apart { AllPairs IsApart self.now }
+        ensures range { AllByRecursion IsInRange self.now }
+    {
+        let _rects = &self.rects;
+    }
+}
