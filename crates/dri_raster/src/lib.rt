@@ -2,6 +2,7 @@
 #![tactic(auto)]
 
 mod edge;
+mod edges;
 mod setup;
 
 pub use setup::Setup;

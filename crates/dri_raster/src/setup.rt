@@ -6,7 +6,8 @@ ghost use Rattle.dri_base.specs.Coverage.{area, covers, turned};
 ghost use Rattle.dri_raster.specs.Edges.{IsPixel, IsWithin};
 ghost use Rattle.dri_base.specs.Ranges.{TriangleInRange};
 
-use crate::edge::{Edge, cross, difference};
+use crate::edge::{cross, difference};
+use crate::edges::Edges;
 use dri_base::Triangle;
 use std::marker::Model;
 
@@ -16,9 +17,7 @@ pub struct Setup {
     triangle: Triangle,
     turned: Triangle,
     area: u64,
-    ab: Edge,
-    bc: Edge,
-    ca: Edge,
+    edges: Edges,
 }
 
 impl Model for Setup {
@@ -50,9 +49,7 @@ impl Setup {
             triangle: *triangle,
             turned,
             area: area.unsigned_abs(),
-            ab: Edge::new(&turned.a, &turned.b),
-            bc: Edge::new(&turned.b, &turned.c),
-            ca: Edge::new(&turned.c, &turned.a),
+            edges: Edges::new(&turned),
         })
     }
 
@@ -62,7 +59,7 @@ impl Setup {
         requires y { IsPixel y }
         ensures { result ≡ covers self.now x y }
     {
-        self.ab.contains(x, y) && self.bc.contains(x, y) && self.ca.contains(x, y)
+        self.edges.contain(x, y)
     }
 }
 
