@@ -2,3 +2,4 @@ pub mod Bounds
 pub mod Distances
 pub mod Rings
 pub mod Covered
+pub mod Quantities

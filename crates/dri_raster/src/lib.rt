@@ -1,8 +1,10 @@
 //! Which pixels a triangle covers, and what its quantities are there.
 #![tactic(auto)]
 
+mod channel;
 mod edge;
 mod edges;
 mod setup;
 
+pub use channel::Channel;
 pub use setup::Setup;
