@@ -3,3 +3,4 @@ pub mod Distances
 pub mod Rings
 pub mod Covered
 pub mod Quantities
+pub mod Rows

@@ -47,8 +47,8 @@ pub area_turned : (t : Triangle) → unsigned_abs (area (turned t)) ≡ unsigned
 area_turned t =
     let swapped : Triangle = record { a = t.a; b = t.c; c = t.b } in
     elim (int_lt (area t) (pos 0)) as (λ b. unsigned_abs (area (if b then swapped else t)) ≡ unsigned_abs (area t)) [
-      true ↦ ap unsigned_abs (area_swapped (corner t.a) (corner t.b) (corner t.c)) ∙ abs_neg (area t)
-    | false ↦ refl
+      | true ↦ ap unsigned_abs (area_swapped (corner t.a) (corner t.b) (corner t.c)) ∙ abs_neg (area t)
+      | false ↦ refl
     ]
 
 pub first_of : (a b : Bool) → (a && b) ≡ true → a ≡ true

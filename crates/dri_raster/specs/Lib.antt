@@ -1,3 +1,5 @@
 pub mod Edges
 pub mod Setups
 pub mod Channels
+pub mod Walks
+pub mod WalkStates

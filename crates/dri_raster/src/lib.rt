@@ -4,7 +4,10 @@
 mod channel;
 mod edge;
 mod edges;
+mod points;
 mod setup;
+mod walk;
 
 pub use channel::Channel;
 pub use setup::Setup;
+pub use walk::Walk;

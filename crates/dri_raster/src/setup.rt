@@ -5,12 +5,14 @@ ghost use Rattle.std.specs.Prelude.{◌≡◌, ◌↔◌, IfSome, IsNone, IsTrue
 ghost use Rattle.dri_base.specs.Coverage.{area, covers, quantity, turned};
 ghost use Rattle.dri_raster.specs.Channels.{value_of};
 ghost use Rattle.dri_raster.specs.Edges.{IsPixel, IsWithin};
+ghost use Rattle.dri_raster.specs.Walks.{IsNear, covered_points};
 ghost use Rattle.dri_base.specs.Ranges.{TriangleInRange};
 
 use crate::channel::Channel;
 use crate::edge::{cross, difference};
 use crate::edges::Edges;
-use dri_base::Triangle;
+use crate::walk::Walk;
+use dri_base::{Rect, Triangle};
 use std::marker::Model;
 
 /// A triangle that has an area, ready for its pixels. Contracts see it as the triangle as it was given.
@@ -74,6 +76,15 @@ impl Setup {
     {
         let sum = self.edges.weighed(&self.turned, channel, x, y);
         (sum.unsigned_abs() / self.area) as u32
+    }
+
+    /// The pixels of the rectangle whose centres the triangle covers, row by row, each once. The rectangle lies within
+    /// -4,096 to 4,096.
+    pub fn for_rect(&self, rect: &Rect) -> Walk
+        requires { IsNear rect.now }
+        ensures { result ≡ covered_points self.now rect.now }
+    {
+        Walk::new(self.edges, rect)
     }
 }
 
