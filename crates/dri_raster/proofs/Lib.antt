@@ -4,3 +4,5 @@ pub mod Rings
 pub mod Covered
 pub mod Quantities
 pub mod Rows
+pub mod Filters
+pub mod CommonEdges

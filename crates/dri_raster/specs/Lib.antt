@@ -3,3 +3,4 @@ pub mod Setups
 pub mod Channels
 pub mod Walks
 pub mod WalkStates
+pub mod Neighbours
