@@ -22,6 +22,6 @@ returns-then-contain-clause-goes c =
     let y_fits : FitsSigned w32 c.in-Some.point.y = omega (arith, ints) in
     let contained = simp to_z-of_z at c.contain.ensures in
     let first = sym c.loop-point.invariant.rest
-      ∙ kept (λ p. are_within e p.x p.y) c.in-Some.point c.next.new.self c.loop-point.self-inside.points (sym contained ∙ c.if-contain.true) c.in-Some.ensures.points in
+    ∙ kept (λ p. are_within e p.x p.y) c.in-Some.point c.next.new.self c.loop-point.self-inside.points (sym contained ∙ c.if-contain.true) c.in-Some.ensures.points in
     let fewer : length (filter (λ p. are_within e p.x p.y) c.next.new.self) < length c.args.self.now = omega (arith, ap length first) in
     record { on = λ _. (tt, tt, fewer); keeps = tt; rests = λ _. tt }
