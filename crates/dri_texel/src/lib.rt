@@ -3,6 +3,8 @@
 
 mod image;
 mod pixel;
+#[cfg(test)]
+mod tests;
 
 pub use image::fetch;
 pub use pixel::{RegisterView, fragment, pixel_rule};
