@@ -2,3 +2,7 @@ pub mod Bounds
 pub mod Distances
 pub mod Rings
 pub mod Covered
+pub mod Quantities
+pub mod Rows
+pub mod Filters
+pub mod CommonEdges

@@ -1,8 +1,10 @@
 -- An edge of a triangle as a linear function of the pixel.
-use Rattle.std.specs.Prelude.{ℕ, ℤ, pos, negsuc, ◌+ℤ◌, ◌-ℤ◌, ◌*ℤ◌, ◌≤ℤ◌, neg_ℤ, if◌then◌else◌}
+use Rattle.std.specs.Prelude.{ℕ, ℤ, pos, ◌+ℤ◌, ◌-ℤ◌, ◌*ℤ◌, ◌≤ℤ◌, neg_ℤ, Bool, ◌&&◌, int_le, if◌then◌else◌}
 use Rattle.dri_base.specs.declared.shape.Point.{Point}
-use Rattle.dri_base.specs.Coverage.{centre, edge, is_top_left}
+use Rattle.dri_base.specs.declared.shape.Triangle.{Triangle}
+use Rattle.dri_base.specs.Coverage.{centre, corner, edge, is_top_left}
 use Rattle.dri_raster.specs.declared.edge.Edge.{Edge}
+use Rattle.dri_raster.specs.declared.edges.Edges.{Edges}
 
 -- a number from -n to n
 abbrev pub IsWithin : ℕ → ℤ → Type 0
@@ -30,3 +32,25 @@ pub record IsSmallEdge (e : Edge) : Type 0 where
   pub origin : IsWithin 137438953472 e.origin
   pub row : IsWithin 1048576 e.row
   pub column : IsWithin 1048576 e.column
+
+-- the edges of a triangle, from each corner to the next
+abbrev pub edges_of : Triangle → Edges
+edges_of t = record {
+  ab = edge_between (corner t.a) (corner t.b);
+  bc = edge_between (corner t.b) (corner t.c);
+  ca = edge_between (corner t.c) (corner t.a);
+}
+
+-- the centre of pixel (x, y) lies within the edge
+abbrev pub holds : Edge → ℤ → ℤ → Bool
+holds e x y = int_le e.least (distance e x y)
+
+-- the centre of pixel (x, y) lies within all three
+abbrev pub are_within : Edges → ℤ → ℤ → Bool
+are_within e x y = holds e.ab x y && (holds e.bc x y && holds e.ca x y)
+
+-- three edges whose numbers are small
+pub record AreSmallEdges (e : Edges) : Type 0 where
+  pub ab : IsSmallEdge e.ab
+  pub bc : IsSmallEdge e.bc
+  pub ca : IsSmallEdge e.ca

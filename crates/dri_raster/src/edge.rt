@@ -2,10 +2,10 @@
 //! edge is linear in the pixel: the distance at pixel (0, 0), what it grows by for each row, and what it falls by for
 //! each column.
 
-ghost use Rattle.std.specs.Prelude.{◌≡◌, pos, ◌+ℤ◌, ◌-ℤ◌, ◌*ℤ◌, int_le};
+ghost use Rattle.std.specs.Prelude.{◌≡◌, pos, ◌+ℤ◌, ◌-ℤ◌, ◌*ℤ◌};
 ghost use Rattle.dri_base.specs.Coverage.{corner, is_top_left};
 ghost use Rattle.dri_base.specs.Ranges.{IsVertexPlace, VertexInRange};
-ghost use Rattle.dri_raster.specs.Edges.{IsWithin, IsPixel, IsSmallEdge, distance, edge_between};
+ghost use Rattle.dri_raster.specs.Edges.{IsWithin, IsPixel, IsSmallEdge, distance, edge_between, holds};
 
 use dri_base::Vertex;
 
@@ -42,7 +42,8 @@ impl Edge {
         requires small { IsSmallEdge self.now }
         requires x { IsPixel x }
         requires y { IsPixel y }
-        ensures { result ≡ distance self.now x y }
+        ensures value { result ≡ distance self.now x y }
+        ensures small { IsWithin 549755813888 result }
     {
         self.origin + cross(self.row, self.column, i64::from(x), i64::from(y))
     }
@@ -52,7 +53,7 @@ impl Edge {
         requires small { IsSmallEdge self.now }
         requires x { IsPixel x }
         requires y { IsPixel y }
-        ensures { result ≡ int_le self.now.least (distance self.now x y) }
+        ensures { result ≡ holds self.now x y }
     {
         self.least <= self.distance(x, y)
     }

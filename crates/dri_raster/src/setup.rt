@@ -1,14 +1,22 @@
 //! A triangle made ready for its pixels. Where its area is negative the second and the third corner change places, so
 //! that the inner side of every edge is the positive one; the three edges and twice the area are worked out once.
 
-ghost use Rattle.std.specs.Prelude.{◌≡◌, ◌↔◌, IfSome, IsNone, pos};
-ghost use Rattle.dri_base.specs.Coverage.{area, covers, turned};
+ghost use Rattle.std.specs.Prelude.{◌≡◌, ◌↔◌, IfSome, IsNone, IsTrue, pos};
+ghost use Rattle.dri_base.specs.Coverage.{area, covers, quantity, turned};
+ghost use Rattle.dri_raster.specs.Channels.{value_of};
 ghost use Rattle.dri_raster.specs.Edges.{IsPixel, IsWithin};
+ghost use Rattle.dri_raster.specs.Walks.{IsNear, covered_points};
 ghost use Rattle.dri_base.specs.Ranges.{TriangleInRange};
 
-use crate::edge::{Edge, cross, difference};
-use dri_base::Triangle;
+use crate::channel::Channel;
+use crate::edge::{cross, difference};
+use crate::edges::Edges;
+use crate::walk::Walk;
+use dri_base::{Rect, Triangle};
 use std::marker::Model;
+
+#[cfg(test)]
+mod tests;
 
 /// A triangle that has an area, ready for its pixels. Contracts see it as the triangle as it was given.
 #[derive(Drop)]
@@ -16,9 +24,7 @@ pub struct Setup {
     triangle: Triangle,
     turned: Triangle,
     area: u64,
-    ab: Edge,
-    bc: Edge,
-    ca: Edge,
+    edges: Edges,
 }
 
 impl Model for Setup {
@@ -50,9 +56,7 @@ impl Setup {
             triangle: *triangle,
             turned,
             area: area.unsigned_abs(),
-            ab: Edge::new(&turned.a, &turned.b),
-            bc: Edge::new(&turned.b, &turned.c),
-            ca: Edge::new(&turned.c, &turned.a),
+            edges: Edges::new(&turned),
         })
     }
 
@@ -62,7 +66,28 @@ impl Setup {
         requires y { IsPixel y }
         ensures { result ≡ covers self.now x y }
     {
-        self.ab.contains(x, y) && self.bc.contains(x, y) && self.ca.contains(x, y)
+        self.edges.contain(x, y)
+    }
+
+    /// A channel's quantity at the centre of pixel (x, y), which the triangle covers: the corners' quantities weighed
+    /// by the three edges, divided by twice the area, rounded down. Never beyond the channel's own range.
+    pub fn value_at(&self, channel: Channel, x: i32, y: i32) -> u32
+        requires x { IsPixel x }
+        requires y { IsPixel y }
+        requires covered { IsTrue (covers self.now x y) }
+        ensures { result ≡ quantity self.now (value_of channel) x y }
+    {
+        let sum = self.edges.weighed(&self.turned, channel, x, y);
+        (sum.unsigned_abs() / self.area) as u32
+    }
+
+    /// The pixels of the rectangle whose centres the triangle covers, row by row, each once. The rectangle lies within
+    /// -4,096 to 4,096.
+    pub fn for_rect(&self, rect: &Rect) -> Walk
+        requires { IsNear rect.now }
+        ensures { result ≡ covered_points self.now rect.now }
+    {
+        Walk::new(self.edges, rect)
     }
 }
 
