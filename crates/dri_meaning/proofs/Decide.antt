@@ -10,7 +10,7 @@ use Rattle.dri_base.specs.declared.command.Command.TheVariants.{Set, Clear, Tria
 use Rattle.dri_meaning.specs.Phases.{Phase}
 use Rattle.dri_meaning.specs.Phases.{In}
 use Rattle.dri_base.specs.declared.scene.Scene.{Scene}
-use Rattle.dri_meaning.specs.Scenes.{command_at, regions_needed}
+use Rattle.dri_base.specs.Scenes.{command_at, regions_needed}
 use Rattle.dri_model.specs.Groups.{same_number, bits, is_empty}
 use Rattle.dri_model.specs.Heaps as Heaps
 use Rattle.dri_model.specs.Heaps.{is_place_for}

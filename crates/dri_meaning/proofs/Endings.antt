@@ -14,7 +14,8 @@ use Rattle.dri_base.specs.declared.journal.Event.TheVariants.{Light, Kernel, Emi
 use Rattle.dri_meaning.specs.Phases.{Phase}
 use Rattle.dri_meaning.specs.Phases.{Out, Old, In, Over, Ask, Asking, Ended, Dead}
 use Rattle.dri_base.specs.declared.scene.Scene.{Scene}
-use Rattle.dri_meaning.specs.Scenes.{InRange, script_in, command_at, commands_of, regions_needed}
+use Rattle.dri_base.proofs.RangeLemmas.{IsWellFormed}
+use Rattle.dri_base.specs.Scenes.{script_in, command_at, commands_of, regions_needed}
 use Rattle.dri_meaning.specs.Worlds.{World, opening}
 use Rattle.dri_meaning.specs.Privates.{Private, textured_with}
 use Rattle.dri_meaning.specs.EntryTable.{LegalEntry, after_entry}
@@ -177,11 +178,11 @@ pub lively_on : (s : Scene) (w : World) (o : Option Entry) → Sound s w → Liv
 lively_on s w None sound l legal = l
 lively_on s w (Some e) sound l legal = lively_step s w e sound l legal
 
-lively_along : (s : Scene) (w : World) (es : List Entry) → InRange s → Sound s w → Lively s w → LegalEntries s w es → Lively s (after_entries s w es)
+lively_along : (s : Scene) (w : World) (es : List Entry) → IsWellFormed s → Sound s w → Lively s w → LegalEntries s w es → Lively s (after_entries s w es)
 lively_along s w [] good sound l all = l
 lively_along s w (e ∷ es) good sound l all = lively_along s (after_entry s w e) es good (sound_kept s w e good sound all.0) (lively_step s w e sound l all.0) all.1
 
-pub lively_after : (s : Scene) (journal : List Entry) → InRange s → HoldRun s journal → Lively s (after s journal)
+pub lively_after : (s : Scene) (journal : List Entry) → IsWellFormed s → HoldRun s journal → Lively s (after s journal)
 lively_after s journal good run = lively_along s (opening s) journal good (sound_opened s good) (lively_opened s) run
 
 -- whose turns would all be passed over
@@ -212,7 +213,7 @@ pass_client s k (p ∷ ps) c some e = by_number (p.number == c) refl (pass_clien
     by_number false n on = on (λ h. some (rw n h)) parts.1
 
 -- a client with a command has a number above 0, so its turn is its own
-turn_client : (s : Scene) (k : Core) (c : ℕ) → InRange s → (commands_of s c ≡ [] → ⊥) → turn s k c ≡ None → turn_of s k c ≡ None
+turn_client : (s : Scene) (k : Core) (c : ℕ) → IsWellFormed s → (commands_of s c ≡ [] → ⊥) → turn s k c ≡ None → turn_of s k c ≡ None
 turn_client s k zero good some e = absurd (some good.numbered)
 turn_client s k (suc c) good some e = e
 
@@ -289,7 +290,7 @@ moves s k c known l can stuck = by_stop (k.dying c) refl
 pub has_command : (s : Scene) (w : World) (c : ℕ) → Lively s w → is_done (w.client c).phase ≡ false → commands_of s c ≡ [] → ⊥
 has_command s w c l live none = true≢false (sym (ap is_done (l.empty c none)) ∙ live)
 
-whole_at : (s : Scene) (k : Core) → InRange s → Known s k → Lively s k.world → all_pass s k (round s) ≡ true → IsWholeWorld s k.world
+whole_at : (s : Scene) (k : Core) → IsWellFormed s → Known s k → Lively s k.world → all_pass s k (round s) ≡ true → IsWholeWorld s k.world
 whole_at s k good known l pass = record {
   unheld = unheld;
   asking = λ c p. true≢false (sym (done c) ∙ rw p refl);
@@ -361,7 +362,7 @@ whole_at s k good known l pass = record {
         by_left false n = grind (arith, nat_tests, l.made)
 
 -- where a turn of each would be passed over, the journal is whole
-pub whole_where_passed : (s : Scene) (events : List Event) → InRange s → IsRun s events → all_pass s (after_events s (opening_core s) events) (round s) ≡ true → Whole s (journal_of events)
+pub whole_where_passed : (s : Scene) (events : List Event) → IsWellFormed s → IsRun s events → all_pass s (after_events s (opening_core s) events) (round s) ≡ true → Whole s (journal_of events)
 whole_where_passed s events good run pass = subst (IsWholeWorld s) (sym (journal_after s events)) (whole_at s (after_events s (opening_core s) events) good (known_after s events good run) lively pass)
   where
     lively : Lively s (after_events s (opening_core s) events).world

@@ -10,7 +10,8 @@ use Rattle.dri_base.specs.declared.command.Command.{Command}
 use Rattle.dri_meaning.specs.Phases.{Out, Old, In, Over, Ask, Asking, Ended, Dead}
 use Rattle.dri_base.specs.declared.journal.Entry.TheVariants.{Light, Kernel, Stale, Emit, Place, Leave, Info, Change, Run, Gone}
 use Rattle.dri_base.specs.declared.scene.Scene.{Scene}
-use Rattle.dri_meaning.specs.Scenes.{InRange, window_of, commands_of, command_at}
+use Rattle.dri_base.proofs.RangeLemmas.{IsWellFormed}
+use Rattle.dri_base.specs.Scenes.{window_of, commands_of, command_at}
 use Rattle.dri_model.specs.Stacks.{clips, origin, without_owner}
 use Rattle.dri_base.specs.declared.state.State.{State}
 use Rattle.dri_model.specs.Groups.{Groups, dirtied}
@@ -76,7 +77,7 @@ acts_none : (cs : List Command) → is_acting (first_phase cs) ≡ false
 acts_none [] = refl
 acts_none (c ∷ cs) = refl
 
-pub opened : (s : Scene) → InRange s → Invariant s (opening s)
+pub opened : (s : Scene) → IsWellFormed s → Invariant s (opening s)
 opened s good = record {
   counted = grind arith;
   stamped = grind arith;
@@ -157,7 +158,7 @@ kept_run f placed (Some t) e = by_run (placed t) e
     by_run None e = refl
     by_run (Some run) e = rw e refl
 
-light : (s : Scene) (w : World) (c : ℕ) → InRange s → Invariant s w → LegalEntry s w (Light c) → Invariant s (after_entry s w (Light c))
+light : (s : Scene) (w : World) (c : ℕ) → IsWellFormed s → Invariant s w → LegalEntry s w (Light c) → Invariant s (after_entry s w (Light c))
 light s w c good inv legal = record {
   counted = inv.counted;
   stamped = grind (arith, nat_tests);
@@ -181,7 +182,7 @@ light s w c good inv legal = record {
   clean_scissor = grind (arith, nat_tests);
 }
 
-kernel : (s : Scene) (w : World) (c found : ℕ) → InRange s → Invariant s w → LegalEntry s w (Kernel c found) → Invariant s (after_entry s w (Kernel c found))
+kernel : (s : Scene) (w : World) (c found : ℕ) → IsWellFormed s → Invariant s w → LegalEntry s w (Kernel c found) → Invariant s (after_entry s w (Kernel c found))
 kernel s w c found good inv legal = record {
   counted = inv.counted;
   stamped = grind (arith, nat_tests);
@@ -205,7 +206,7 @@ kernel s w c found good inv legal = record {
   clean_scissor = grind (arith, nat_tests);
 }
 
-stale : (s : Scene) (w : World) (c : ℕ) → InRange s → Invariant s w → LegalEntry s w (Stale c) → Invariant s (after_entry s w (Stale c))
+stale : (s : Scene) (w : World) (c : ℕ) → IsWellFormed s → Invariant s w → LegalEntry s w (Stale c) → Invariant s (after_entry s w (Stale c))
 stale s w c good inv legal = record {
   counted = inv.counted;
   stamped = grind (arith, nat_tests);
@@ -229,7 +230,7 @@ stale s w c good inv legal = record {
   clean_scissor = grind (arith, nat_tests);
 }
 
-emit : (s : Scene) (w : World) (c groups : ℕ) → InRange s → Invariant s w → LegalEntry s w (Emit c groups) → Invariant s (after_entry s w (Emit c groups))
+emit : (s : Scene) (w : World) (c groups : ℕ) → IsWellFormed s → Invariant s w → LegalEntry s w (Emit c groups) → Invariant s (after_entry s w (Emit c groups))
 emit s w c groups good inv legal = record {
   counted = inv.counted;
   stamped = grind (arith, nat_tests);
@@ -253,7 +254,7 @@ emit s w c groups good inv legal = record {
   clean_scissor = grind (arith, nat_tests);
 }
 
-place : (s : Scene) (w : World) (c t first count : ℕ) → InRange s → Invariant s w → LegalEntry s w (Place c t first count) → Invariant s (after_entry s w (Place c t first count))
+place : (s : Scene) (w : World) (c t first count : ℕ) → IsWellFormed s → Invariant s w → LegalEntry s w (Place c t first count) → Invariant s (after_entry s w (Place c t first count))
 place s w c t first count good inv legal = record {
   counted = inv.counted;
   stamped = grind (arith, nat_tests);
@@ -277,7 +278,7 @@ place s w c t first count good inv legal = record {
   clean_scissor = grind (arith, nat_tests);
 }
 
-leave : (s : Scene) (w : World) (c : ℕ) → InRange s → Invariant s w → LegalEntry s w (Leave c) → Invariant s (after_entry s w (Leave c))
+leave : (s : Scene) (w : World) (c : ℕ) → IsWellFormed s → Invariant s w → LegalEntry s w (Leave c) → Invariant s (after_entry s w (Leave c))
 leave s w c good inv legal = record {
   counted = inv.counted;
   stamped = grind (arith, nat_tests);
@@ -301,7 +302,7 @@ leave s w c good inv legal = record {
   clean_scissor = grind (arith, nat_tests);
 }
 
-info : (s : Scene) (w : World) (c : ℕ) → InRange s → Invariant s w → LegalEntry s w (Info c) → Invariant s (after_entry s w (Info c))
+info : (s : Scene) (w : World) (c : ℕ) → IsWellFormed s → Invariant s w → LegalEntry s w (Info c) → Invariant s (after_entry s w (Info c))
 info s w c good inv legal = record {
   counted = inv.counted;
   stamped = grind (arith, nat_tests);
@@ -339,7 +340,7 @@ put_keeps P f c p d here there = by_client (cases_eq d c)
     by_client (inl same) = subst (λ k. P k (put f c p k)) (sym same) (subst (P c) (sym (put_here f c p)) here)
     by_client (inr ne) = subst (P d) (sym (put_there f c p d ne)) there
 
-ran : (s : Scene) (w : World) (c i : ℕ) → InRange s → Invariant s w → LegalEntry s w (Run c i) → Invariant s (after_entry s w (Run c i))
+ran : (s : Scene) (w : World) (c i : ℕ) → IsWellFormed s → Invariant s w → LegalEntry s w (Run c i) → Invariant s (after_entry s w (Run c i))
 ran s w c i good inv legal = record {
   counted = inv.counted;
   stamped = λ d. put_keeps (λ k q. q.stamp ≤ w.counter) w.client c (run_by s w c i) d (inv.stamped c) (inv.stamped d);
@@ -398,7 +399,7 @@ restack s w new inv = record {
         ((w.client c).stamp ≡ w.stamps (window_of s c)) × (touched_by s w new (window_of s c) ≡ false)
     stood c = stamp_stood s w new (w.client c).stamp (window_of s c) (inv.stamped c)
 
-change : (s : Scene) (w : World) (i : ℕ) → InRange s → Invariant s w → LegalEntry s w (Change i) → Invariant s (after_entry s w (Change i))
+change : (s : Scene) (w : World) (i : ℕ) → IsWellFormed s → Invariant s w → LegalEntry s w (Change i) → Invariant s (after_entry s w (Change i))
 change s w i good inv legal = record {
   counted = r.counted;
   stamped = r.stamped;
@@ -445,7 +446,7 @@ not_zero s w zero inv (inl dies) = absurd (grind (arith, inv.nobody, dies.0))
 not_zero s w zero inv (inr named) = absurd (grind (arith, inv.nobody, named.1))
 not_zero s w (suc c) inv legal = omega arith
 
-gone : (s : Scene) (w : World) (c : ℕ) → InRange s → Invariant s w → LegalEntry s w (Gone c) → Invariant s (after_entry s w (Gone c))
+gone : (s : Scene) (w : World) (c : ℕ) → IsWellFormed s → Invariant s w → LegalEntry s w (Gone c) → Invariant s (after_entry s w (Gone c))
 gone s w c good inv legal = record {
   counted = r.counted;
   stamped = λ d. grind (arith, nat_tests, r.stamped d);
@@ -478,7 +479,7 @@ gone s w c good inv legal = record {
     nobody_holds : (d : ℕ) → is_holding ((after_entry s w (Gone c)).client d).phase ≡ true → ⊥
     nobody_holds d h = grind (arith, nat_tests, others d)
 
-pub keep : (s : Scene) (w : World) (e : Entry) → InRange s → Invariant s w → LegalEntry s w e → Invariant s (after_entry s w e)
+pub keep : (s : Scene) (w : World) (e : Entry) → IsWellFormed s → Invariant s w → LegalEntry s w e → Invariant s (after_entry s w e)
 keep s w (Light c) = light s w c
 keep s w (Kernel c found) = kernel s w c found
 keep s w (Stale c) = stale s w c
@@ -491,9 +492,9 @@ keep s w (Run c i) = ran s w c i
 keep s w (Gone c) = gone s w c
 
 -- the invariant holds wherever the table leads
-pub kept : (s : Scene) (w : World) (es : List Entry) → InRange s → Invariant s w → LegalEntries s w es → Invariant s (after_entries s w es)
+pub kept : (s : Scene) (w : World) (es : List Entry) → IsWellFormed s → Invariant s w → LegalEntries s w es → Invariant s (after_entries s w es)
 kept s w [] good inv allowed = inv
 kept s w (e ∷ es) good inv allowed = kept s (after_entry s w e) es good (keep s w e good inv allowed.0) allowed.1
 
-pub after_kept : (s : Scene) (journal : List Entry) → InRange s → HoldRun s journal → Invariant s (after s journal)
+pub after_kept : (s : Scene) (journal : List Entry) → IsWellFormed s → HoldRun s journal → Invariant s (after s journal)
 after_kept s journal good run = kept s (opening s) journal good (opened s good) run

@@ -9,7 +9,8 @@ use Rattle.dri_base.specs.declared.command.Command.{Command}
 use Rattle.dri_base.specs.declared.command.Command.TheVariants.{Set, Clear, Triangle, Swap, Yield, Die}
 use Rattle.dri_base.specs.declared.journal.Entry.TheVariants.{Light, Kernel, Stale, Emit, Place, Leave, Info, Change, Run, Gone}
 use Rattle.dri_base.specs.declared.scene.Scene.{Scene}
-use Rattle.dri_meaning.specs.Scenes.{InRange, window_of, command_at}
+use Rattle.dri_base.proofs.RangeLemmas.{IsWellFormed}
+use Rattle.dri_base.specs.Scenes.{window_of, command_at}
 use Rattle.dri_meaning.specs.Worlds.{World, opening, clips_in}
 use Rattle.dri_meaning.specs.Privates.{Private}
 use Rattle.dri_meaning.specs.EntryTable.{LegalEntry, after_entry}
@@ -96,7 +97,7 @@ same_outside s w c i copy = record { front = λ x y o. front (command_at s c i) 
     front (Some Die) x y o = refl
     front None x y o = refl
 
-pub confined_run : (s : Scene) (journal : List Entry) → InRange s → HoldRun s journal → Confined s journal
+pub confined_run : (s : Scene) (journal : List Entry) → IsWellFormed s → HoldRun s journal → Confined s journal
 confined_run s journal good run past rest c i e =
     rw steps-append (same_outside s (after s past) c i current.copy)
   where

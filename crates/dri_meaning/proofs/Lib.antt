@@ -12,3 +12,4 @@ pub mod Endings
 pub mod Aged
 pub mod Measures
 pub mod Rounds
+pub mod RunLaws

@@ -19,7 +19,8 @@ use Rattle.dri_model.specs.Groups.{is_empty, no_groups}
 use Rattle.dri_meaning.specs.EventTable.{LegalEvent, leaves, after_event}
 use Rattle.dri_meaning.specs.Measures.{one_if, phase_left, part_left, is_stale, has_to_wait, client_left, clients_left, server_left, work_left}
 use Rattle.dri_meaning.specs.Phases.{Phase, Out, Old, In, Over, Ask, Asking, Dead, is_done, is_holding, wants_in, phase_after, left_from}
-use Rattle.dri_meaning.specs.Scenes.{script_in, commands_of, window_of, client_numbers, command_at}
+use Rattle.dri_base.specs.Ranges.{client_numbers}
+use Rattle.dri_base.specs.Scenes.{script_in, commands_of, window_of, command_at}
 use Rattle.dri_meaning.specs.Worlds.{put}
 use Rattle.dri_meaning.proofs.Aged.{Aged}
 use Rattle.dri_meaning.proofs.Endings.{Lively, has_command}

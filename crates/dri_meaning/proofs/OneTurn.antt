@@ -10,7 +10,8 @@ use Rattle.dri_meaning.specs.Phases as Phase_is
 use Rattle.dri_base.specs.declared.command.Command.{Command}
 use Rattle.dri_base.specs.declared.command.Command.TheVariants as Command_is
 use Rattle.dri_base.specs.declared.scene.Scene.{Scene}
-use Rattle.dri_meaning.specs.Scenes.{InRange, command_at, regions_needed}
+use Rattle.dri_base.proofs.RangeLemmas.{IsWellFormed}
+use Rattle.dri_base.specs.Scenes.{command_at, regions_needed}
 use Rattle.dri_model.specs.Groups.{is_empty}
 use Rattle.dri_model.specs.Heaps as Heaps
 use Rattle.dri_model.specs.Heaps.{Heap, lowest_place, classes_for, is_place_for}
@@ -250,7 +251,7 @@ or_possible s k a go e can wants stays h = by_word k.word.held refl (is_next a k
     by_word false eh false en = wait_possible s k a e wants (stays en eh) (skipped (rw (eh, en) refl))
     by_word true eh n en = wait_possible s k a e wants (rw eh refl) (skipped (rw eh refl))
 
-acting_possible : (s : Scene) (k : Core) (c : ℕ) (e : Event) → InRange s → (k.world.client c).phase ≡ Phase_is.In → (command : Option Command) → command_at s c (k.world.client c).place ≡ command → acting_turn s k.world c command ≡ Some e → LegalEvent s k e
+acting_possible : (s : Scene) (k : Core) (c : ℕ) (e : Event) → IsWellFormed s → (k.world.client c).phase ≡ Phase_is.In → (command : Option Command) → command_at s c (k.world.client c).place ≡ command → acting_turn s k.world c command ≡ Some e → LegalEvent s k e
 acting_possible s k c e good phase (Some Command_is.Die) is h = subst (LegalEvent s k) (some_is h) (inl (rw phase refl, inr (phase, is)))
 acting_possible s k c e good phase (Some (Command_is.Triangle t)) is h = by_texture (textured_with (k.world.client c).state) refl h
   where
@@ -277,7 +278,7 @@ acting_possible s k c e good phase (Some Command_is.Swap) is h = subst (LegalEve
 acting_possible s k c e good phase (Some Command_is.Yield) is h = subst (LegalEvent s k) (some_is h) (phase, refl, rw is refl)
 acting_possible s k c e good phase None is h = absurd (none_is h)
 
-turn_in_possible : (s : Scene) (k : Core) (c : ℕ) (e : Event) → InRange s → k.dying (suc c) ≡ false → (p : Phase) → (k.world.client (suc c)).phase ≡ p → turn_in s k (suc c) p ≡ Some e → LegalEvent s k e
+turn_in_possible : (s : Scene) (k : Core) (c : ℕ) (e : Event) → IsWellFormed s → k.dying (suc c) ≡ false → (p : Phase) → (k.world.client (suc c)).phase ≡ p → turn_in s k (suc c) p ≡ Some e → LegalEvent s k e
 turn_in_possible s k c e good live Phase_is.Out phase h = by_name (not k.word.held && (k.word.context == suc c + 1)) refl
   where
     by_name : (b : Bool) → (not k.word.held && (k.word.context == suc c + 1)) ≡ b → LegalEvent s k e
@@ -302,7 +303,7 @@ turn_in_possible s k c e good live Phase_is.Ended phase h = absurd (none_is h)
 turn_in_possible s k c e good live Phase_is.Dead phase h = absurd (none_is h)
 
 -- what a turn brings is possible
-pub turn_possible : (s : Scene) (k : Core) (c : ℕ) (e : Event) → InRange s → turn_of s k (suc c) ≡ Some e → LegalEvent s k e
+pub turn_possible : (s : Scene) (k : Core) (c : ℕ) (e : Event) → IsWellFormed s → turn_of s k (suc c) ≡ Some e → LegalEvent s k e
 turn_possible s k c e good h = by_stop (k.dying (suc c)) refl
   where
     by_stop : (b : Bool) → k.dying (suc c) ≡ b → LegalEvent s k e
@@ -315,25 +316,25 @@ pub record Known (s : Scene) (k : Core) : Type 0 where
   pub tied : Tied s k
   pub queued : Queued s k
 
-pub known_start : (s : Scene) → InRange s → Known s (opening_core s)
+pub known_start : (s : Scene) → IsWellFormed s → Known s (opening_core s)
 known_start s good = record {
   sound = sound_opened s good;
   tied = tied_start s;
   queued = record { server = λ h. absurd (true≢false (sym h)); wants = λ c l h. absurd (true≢false (sym h)); named = λ c a b d e. refl; alive = λ c st. absurd (true≢false (sym st)); nobody = rw good.numbered refl };
 }
 
-pub known_step : (s : Scene) (k : Core) (e : Event) → InRange s → Known s k → LegalEvent s k e → Known s (after_event s k e)
+pub known_step : (s : Scene) (k : Core) (e : Event) → IsWellFormed s → Known s k → LegalEvent s k e → Known s (after_event s k e)
 known_step s k e good known possible = record {
   sound = invariant_on s k.world (entry_of e) good known.sound (legal_of s k e known.sound known.tied possible);
   tied = tied_step s k e known.sound known.tied possible;
   queued = queued_step s k e (λ d st. (known.tied.dying d st).1) (λ d h. (known.tied.held d (known.sound.main.holding d h)).0) known.queued possible;
 }
 
-known_along : (s : Scene) (k : Core) (es : List Event) → InRange s → Known s k → LegalEvents s k es → Known s (after_events s k es)
+known_along : (s : Scene) (k : Core) (es : List Event) → IsWellFormed s → Known s k → LegalEvents s k es → Known s (after_events s k es)
 known_along s k [] good known all = known
 known_along s k (e ∷ es) good known all = known_along s (after_event s k e) es good (known_step s k e good known all.0) all.1
 
-pub known_after : (s : Scene) (events : List Event) → InRange s → IsRun s events → Known s (after_events s (opening_core s) events)
+pub known_after : (s : Scene) (events : List Event) → IsWellFormed s → IsRun s events → Known s (after_events s (opening_core s) events)
 known_after s events good run = known_along s (opening_core s) events good (known_start s good) run
 
 -- a client's event, since no client has number 0
@@ -364,7 +365,7 @@ gone_client : (s : Scene) (k : Core) (c : ℕ) → Known s k → DiesByTurn s k 
 gone_client s k c known (inl dying) e = true≢false (sym (ap is_done known.queued.nobody) ∙ subst (λ n. is_done (k.world.client n).phase ≡ false) e (known.tied.dying c dying).1)
 gone_client s k c known (inr dies) e = not_nobody s k c Phase_is.In known.queued dies.0 (λ x. grind arith) e
 
-pub one_event : (s : Scene) (k : Core) → InRange s → Known s k → OneEvent s k
+pub one_event : (s : Scene) (k : Core) → IsWellFormed s → Known s k → OneEvent s k
 one_event s k good known (Light c) possible by = as_turn s k c (Light c) (not_nobody s k c Phase_is.Out known.queued possible.1 (λ x. grind arith)) (light_turn s k c possible)
 one_event s k good known (Kernel c found) possible by = as_turn s k c (Kernel c found) (not_nobody s k c Phase_is.Out known.queued possible.1 (λ x. grind arith)) (kernel_turn s k c found possible)
 one_event s k good known (Queue zero) possible by = queue_server s k known.queued possible
@@ -394,7 +395,7 @@ server_possible s k e q h = by_left (nat_lt k.world.made (length s.changes)) ref
         by_stop true = refl
         by_stop false = refl
 
-pub turns_possible : (s : Scene) (k : Core) → InRange s → Known s k → TurnsAreLegal s k
+pub turns_possible : (s : Scene) (k : Core) → IsWellFormed s → Known s k → TurnsAreLegal s k
 turns_possible s k good known zero e h = server_possible s k e known.queued h
 turns_possible s k good known (suc c) e h = turn_possible s k c e good h
 
@@ -439,7 +440,7 @@ marked_step s k (LeaveKernel c) known m possible by = record { held = λ h. absu
 marked_step s k (Stop c) known m possible by = record { held = m.held; free = m.free }
 marked_step s k (Gone c) known m possible by = record { held = λ h. absurd (true≢false (sym h)); free = λ f. refl }
 
-marked_along : (s : Scene) (k : Core) (es : List Event) → InRange s → Known s k → Marked k → LegalEvents s k es → NoTake s k es → Marked (after_events s k es)
+marked_along : (s : Scene) (k : Core) (es : List Event) → IsWellFormed s → Known s k → Marked k → LegalEvents s k es → NoTake s k es → Marked (after_events s k es)
 marked_along s k [] good known m all none = m
 marked_along s k (e ∷ es) good known m all none = marked_along s (after_event s k e) es good (known_step s k e good known all.0) (marked_step s k e known m all.0 none.0) all.1 none.1
 
@@ -447,7 +448,7 @@ possible-append : (s : Scene) (k : Core) (past rest : List Event) → LegalEvent
 possible-append s k [] rest all = (tt, all)
 possible-append s k (e ∷ past) rest all = let h = possible-append s (after_event s k e) past rest all.1 in ((all.0, h.0), h.1)
 
-pub no_light_after_mark : (s : Scene) (events : List Event) → InRange s → IsRun s events → NoLightAfterMark s events
+pub no_light_after_mark : (s : Scene) (events : List Event) → IsWellFormed s → IsRun s events → NoLightAfterMark s events
 no_light_after_mark s events good run past more a c e none light = no_context (m.free light.2) light.3
   where
     parts : LegalEvents s (opening_core s) past × LegalEvents s (after_events s (opening_core s) past) (Mark a ∷ more)

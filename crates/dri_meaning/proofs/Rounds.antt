@@ -1,6 +1,6 @@
 -- Turns and kills make a run, and rounds come to an end.
-use Rattle.std.proofs.Common.{◌≡◌, ◌<◌, ◌≤◌, ◌+◌, ℕ, zero, suc, List, [], ◌∷◌, ◌++◌, map, Bool, true, false, Option, Some, None, arith, refl, sym, ap, ◌∙◌, inl, inr, subst}
-use Rattle.std.specs.Prelude.{◌==◌, ◌⊎◌, ◌||◌, ◌&&◌, is_none, if◌then◌else◌, not, nat_lt, length}
+use Rattle.std.proofs.Common.{◌≡◌, ◌<◌, ◌≤◌, ◌+◌, ◌-◌, ℕ, zero, suc, List, [], ◌∷◌, ◌++◌, map, Bool, true, false, Option, Some, None, arith, refl, sym, ap, ◌∙◌, inl, inr, subst}
+use Rattle.std.specs.Prelude.{◌==◌, ◌⊎◌, ◌||◌, ◌&&◌, is_none, if◌then◌else◌, not, nat_lt, nat_le, length}
 use Rattle.std.proofs.lemmas.Bool.{true≢false}
 use Rattle.std.proofs.lemmas.Bool.Decides.{nat_tests}
 use Rattle.dri_base.specs.declared.command.Item.{Item}
@@ -20,8 +20,9 @@ use Rattle.dri_meaning.specs.Privates.{textured_with}
 use Rattle.dri_model.specs.Groups.{is_empty, bits}
 use Rattle.dri_model.specs.Heaps as Heaps
 use Rattle.dri_meaning.specs.Worlds.{World}
-use Rattle.dri_meaning.specs.Scenes.{InRange, kills_in, is_named, command_at}
-use Rattle.dri_meaning.specs.Turns.{turn, turn_in, emit_turn, triangle_turn, acting_turn, waiting, or_waiting, kill, item_event, one_event, core_after, played, round, rounds, all_pass, turns_and_rounds}
+use Rattle.dri_base.proofs.RangeLemmas.{IsWellFormed}
+use Rattle.dri_base.specs.Scenes.{kills_in, is_named, command_at}
+use Rattle.dri_meaning.specs.Turns.{IsTurns, turn, turn_in, emit_turn, triangle_turn, acting_turn, waiting, or_waiting, kill, item_event, one_event, core_after, played, round, rounds, all_pass, turns_and_rounds}
 use Rattle.dri_meaning.proofs.Aged.{Aged, aged_opened, aged_on}
 use Rattle.dri_meaning.proofs.Cores.{legal_of}
 use Rattle.dri_meaning.proofs.Endings.{Lively, lively_opened, lively_on}
@@ -34,21 +35,21 @@ pub record Going (s : Scene) (k : Core) : Type 0 where
   pub lively : Lively s k.world
   pub aged : Aged s k.world
 
-going_start : (s : Scene) → InRange s → Going s (opening_core s)
+going_start : (s : Scene) → IsWellFormed s → Going s (opening_core s)
 going_start s good = record { known = known_start s good; lively = lively_opened s; aged = aged_opened s }
 
-pub going_on : (s : Scene) (k : Core) (e : Event) → InRange s → Going s k → LegalEvent s k e → Going s (after_event s k e)
+pub going_on : (s : Scene) (k : Core) (e : Event) → IsWellFormed s → Going s k → LegalEvent s k e → Going s (after_event s k e)
 going_on s k e good going legal = record {
   known = known_step s k e good going.known legal;
   lively = lively_on s k.world _ going.known.sound going.lively (legal_of s k e going.known.sound going.known.tied legal);
   aged = aged_on s k.world _ going.known.sound going.aged (legal_of s k e going.known.sound going.known.tied legal);
 }
 
-pub going_along : (s : Scene) (k : Core) (es : List Event) → InRange s → Going s k → LegalEvents s k es → Going s (after_events s k es)
+pub going_along : (s : Scene) (k : Core) (es : List Event) → IsWellFormed s → Going s k → LegalEvents s k es → Going s (after_events s k es)
 going_along s k [] good going all = going
 going_along s k (e ∷ es) good going all = going_along s (after_event s k e) es good (going_on s k e good going all.0) all.1
 
-pub going_after : (s : Scene) (events : List Event) → InRange s → IsRun s events → Going s (after_events s (opening_core s) events)
+pub going_after : (s : Scene) (events : List Event) → IsWellFormed s → IsRun s events → Going s (after_events s (opening_core s) events)
 going_after s events good run = going_along s (opening_core s) events good (going_start s good) run
 
 -- no turn brings a stop
@@ -133,7 +134,7 @@ no_stop : (s : Scene) (k : Core) (a : ℕ) (e : Event) → turn s k a ≡ Some e
 no_stop s k a e h c same = true≢false (sym (ap is_stop (h ∙ ap Some same)) ∙ turn_on s k a)
 
 -- each turn leaves less to do
-pub turn_less : (s : Scene) (k : Core) → InRange s → Going s k → TurnsLeaveLess s k
+pub turn_less : (s : Scene) (k : Core) → IsWellFormed s → Going s k → TurnsLeaveLess s k
 turn_less s k good going a e h = less s k going.known going.lively going.aged e (turns_possible s k good going.known a e h) (no_stop s k a e h)
 
 some_same : (a b : Event) → Some a ≡ Some b → a ≡ b
@@ -173,7 +174,7 @@ scheduled_tail s (Kill d) items all c e = all c (rw e (or_true (d == c)))
     or_true true = refl
     or_true false = refl
 
-item_legal : (s : Scene) (k : Core) (item : Item) (items : List Item) (e : Event) → InRange s → Going s k → Scheduled s (item ∷ items) → item_event s k item ≡ Some e → LegalEvent s k e
+item_legal : (s : Scene) (k : Core) (item : Item) (items : List Item) (e : Event) → IsWellFormed s → Going s k → Scheduled s (item ∷ items) → item_event s k item ≡ Some e → LegalEvent s k e
 item_legal s k (Turn a) items e good going all h = turns_possible s k good going.known a e h
 item_legal s k (Kill c) items e good going all h = kill_legal s k c e (all c (rw same refl)) h
   where
@@ -181,7 +182,7 @@ item_legal s k (Kill c) items e good going all h = kill_legal s k c e (all c (rw
     same = grind (arith, nat_tests)
 
 -- what the items bring is legal, one after another
-played_legal : (s : Scene) (k : Core) (items : List Item) → InRange s → Going s k → Scheduled s items → LegalEvents s k (played s k items)
+played_legal : (s : Scene) (k : Core) (items : List Item) → IsWellFormed s → Going s k → Scheduled s items → LegalEvents s k (played s k items)
 played_legal s k [] good going all = tt
 played_legal s k (item ∷ items) good going all = by_event (item_event s k item) refl (λ m on. played_legal s m items good on (scheduled_tail s item items all))
   where
@@ -224,11 +225,11 @@ kills_append (Kill d ∷ xs) ys c e = by_name (d == c) refl (kills_append xs ys 
 scheduled : (s : Scene) (n : ℕ) → Scheduled s (s.turns ++ rounds s n)
 scheduled s n c e = elim (kills_append s.turns (rounds s n) c e) [ inl x ↦ x | inr y ↦ absurd (true≢false (sym y ∙ no_kills s n c)) ]
 
-pub turns_are_run : (s : Scene) (n : ℕ) → InRange s → IsRun s (turns_and_rounds s n)
+pub turns_are_run : (s : Scene) (n : ℕ) → IsWellFormed s → IsRun s (turns_and_rounds s n)
 turns_are_run s n good = played_legal s (opening_core s) (s.turns ++ rounds s n) good (going_start s good) (scheduled s n)
 
 -- turns leave no more to do than there was, and less where one isn't passed over
-turns_less : (s : Scene) (k : Core) (items : List Item) → InRange s → Going s k → ((c : ℕ) → kills_in items c ≡ false) → (work_left s (after_events s k (played s k items)) ≤ work_left s k) × (all_pass s k items ≡ false → work_left s (after_events s k (played s k items)) < work_left s k)
+turns_less : (s : Scene) (k : Core) (items : List Item) → IsWellFormed s → Going s k → ((c : ℕ) → kills_in items c ≡ false) → (work_left s (after_events s k (played s k items)) ≤ work_left s k) × (all_pass s k items ≡ false → work_left s (after_events s k (played s k items)) < work_left s k)
 turns_less s k [] good going none = (omega arith, λ e. absurd (true≢false e))
 turns_less s k (Kill c ∷ items) good going none = absurd (true≢false (grind (arith, nat_tests, none c)))
 turns_less s k (Turn a ∷ items) good going none = by_event (turn s k a) refl (λ m on. turns_less s m items good on none)
@@ -250,7 +251,7 @@ round_kills s c = in_round s.clients
     in_round (p ∷ ps) = in_round ps
 
 -- after some number of rounds every turn is passed over
-rounds_end : (s : Scene) (k : Core) (fuel : ℕ) → InRange s → Going s k → work_left s k ≤ fuel → (n : ℕ) × (all_pass s (after_events s k (played s k (rounds s n))) (round s) ≡ true)
+rounds_end : (s : Scene) (k : Core) (fuel : ℕ) → IsWellFormed s → Going s k → work_left s k ≤ fuel → (n : ℕ) × (all_pass s (after_events s k (played s k (rounds s n))) (round s) ≡ true)
 rounds_end s k zero good going le = by_pass (all_pass s k (round s)) refl
   where
     by_pass : (b : Bool) → all_pass s k (round s) ≡ b → (n : ℕ) × (all_pass s (after_events s k (played s k (rounds s n))) (round s) ≡ true)
@@ -273,7 +274,7 @@ rounds_end s k (suc fuel) good going le = by_pass (all_pass s k (round s)) refl 
         let r = on (after_events s k (played s k (round s))) round_on (omega (arith, down, le)) in
         (suc r.0, more r.0 r.1)
 
-pub comes_to_an_end : (s : Scene) → InRange s → ComesToAnEnd s
+pub comes_to_an_end : (s : Scene) → IsWellFormed s → ComesToAnEnd s
 comes_to_an_end s good = record { rounds = r.0; ended = rw (played_append s (opening_core s) s.turns (rounds s r.0), after_append s (opening_core s) first (played s (after_events s (opening_core s) first) (rounds s r.0))) r.1 }
   where
     first : List Event
@@ -284,3 +285,51 @@ comes_to_an_end s good = record { rounds = r.0; ended = rw (played_append s (ope
 
     r : (n : ℕ) × (all_pass s (after_events s (after_events s (opening_core s) first) (played s (after_events s (opening_core s) first) (rounds s n))) (round s) ≡ true)
     r = rounds_end s (after_events s (opening_core s) first) (work_left s (after_events s (opening_core s) first)) good going (omega arith)
+
+-- where every turn is passed over, more rounds bring nothing
+pass_nothing : (s : Scene) (k : Core) (items : List Item) → all_pass s k items ≡ true → played s k items ≡ []
+pass_nothing s k [] e = refl
+pass_nothing s k (item ∷ items) e = by_event (item_event s k item) e (pass_nothing s k items)
+  where
+    by_event : (o : Option Event) → (is_none o && all_pass s k items) ≡ true → (all_pass s k items ≡ true → played s k items ≡ []) → one_event o ++ played s (core_after s k o) items ≡ []
+    by_event None h on = on h
+    by_event (Some x) h on = absurd (true≢false (sym h))
+
+rounds_nothing : (s : Scene) (k : Core) (n : ℕ) → all_pass s k (round s) ≡ true → played s k (rounds s n) ≡ []
+rounds_nothing s k zero e = refl
+rounds_nothing s k (suc n) e = rw (played_append s k (round s) (rounds s n), pass_nothing s k (round s) e) (rounds_nothing s k n e)
+
+append_twice : (xs ys zs : List Item) → (xs ++ ys) ++ zs ≡ xs ++ (ys ++ zs)
+append_twice [] ys zs = refl
+append_twice (x ∷ xs) ys zs = ap (λ t. x ∷ t) (append_twice xs ys zs)
+
+more_rounds : (s : Scene) (n d : ℕ) → rounds s (n + d) ≡ rounds s n ++ rounds s d
+more_rounds s zero d = let e : 0 + d ≡ d = omega arith in ap (rounds s) e
+more_rounds s (suc n) d = let e : suc n + d ≡ suc (n + d) = omega arith in
+    ap (rounds s) e ∙ ap (λ t. round s ++ t) (more_rounds s n d) ∙ sym (append_twice (round s) (rounds s n) (rounds s d))
+
+append_nothing : (xs : List Event) → xs ++ [] ≡ xs
+append_nothing [] = refl
+append_nothing (x ∷ xs) = ap (λ t. x ∷ t) (append_nothing xs)
+
+no_more_after : (s : Scene) (n d : ℕ) → all_pass s (after_events s (opening_core s) (turns_and_rounds s n)) (round s) ≡ true → turns_and_rounds s (n + d) ≡ turns_and_rounds s n
+no_more_after s n d e =
+    ap (λ t. played s (opening_core s) (s.turns ++ t)) (more_rounds s n d) ∙
+    ap (played s (opening_core s)) (sym (append_twice s.turns (rounds s n) (rounds s d))) ∙
+    played_append s (opening_core s) (s.turns ++ rounds s n) (rounds s d) ∙
+    ap (λ t. turns_and_rounds s n ++ t) (rounds_nothing s (after_events s (opening_core s) (turns_and_rounds s n)) d e) ∙
+    append_nothing (turns_and_rounds s n)
+
+-- so there is one such run
+pub one_run : (s : Scene) (a b : List Event) → IsTurns s a → IsTurns s b → a ≡ b
+one_run s a b x y = by_order (nat_le x.rounds y.rounds) refl
+  where
+    below : (a b : List Event) (x : IsTurns s a) (y : IsTurns s b) → x.rounds ≤ y.rounds → a ≡ b
+    below a b x y le =
+        let ended : all_pass s (after_events s (opening_core s) (turns_and_rounds s x.rounds)) (round s) ≡ true = subst (λ t. all_pass s (after_events s (opening_core s) t) (round s) ≡ true) x.made x.ended in
+        let e : x.rounds + (y.rounds - x.rounds) ≡ y.rounds = omega (arith, le) in
+        x.made ∙ sym (no_more_after s x.rounds (y.rounds - x.rounds) ended) ∙ ap (turns_and_rounds s) e ∙ sym y.made
+
+    by_order : (o : Bool) → nat_le x.rounds y.rounds ≡ o → a ≡ b
+    by_order true e = below a b x y (grind (arith, nat_tests))
+    by_order false e = sym (below b a y x (grind (arith, nat_tests)))

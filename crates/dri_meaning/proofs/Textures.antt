@@ -10,7 +10,8 @@ use Rattle.dri_base.specs.declared.command.Command.TheVariants.{Set, Clear, Tria
 use Rattle.dri_meaning.specs.Phases.{Out}
 use Rattle.dri_base.specs.declared.journal.Entry.TheVariants.{Light, Kernel, Stale, Emit, Place, Leave, Info, Change, Run, Gone}
 use Rattle.dri_base.specs.declared.scene.Scene.{Scene}
-use Rattle.dri_meaning.specs.Scenes.{InRange, command_at, textures_of, bytes_of, regions_for, regions_needed}
+use Rattle.dri_base.proofs.RangeLemmas.{IsWellFormed}
+use Rattle.dri_base.specs.Scenes.{command_at, textures_of, bytes_of, regions_for, regions_needed}
 use Rattle.dri_base.specs.Texels.{texture_in}
 use Rattle.dri_model.specs.Heaps as Heaps
 use Rattle.dri_model.specs.Heaps.{Heap, in_run, any_in, lose, is_newer, is_oldest, is_room, fits, lowest_place, classes_for, is_place_for, freed_for, age_freed, allocated, touched, uploaded}
@@ -262,7 +263,7 @@ room_at n h m count first k e le lt = not_not (is_room n h m k) (none_from (λ j
 no_room : (a b : Bool) → a ≡ true → b ≡ false → (not a || b) ≡ false
 no_room a b p q = rw (p, q) refl
 
-place : (s : Scene) (w : World) (c t first count : ℕ) → InRange s → Invariant s w → Textures s w → LegalEntry s w (Place c t first count) → Textures s (after_entry s w (Place c t first count))
+place : (s : Scene) (w : World) (c t first count : ℕ) → IsWellFormed s → Invariant s w → Textures s w → LegalEntry s w (Place c t first count) → Textures s (after_entry s w (Place c t first count))
 place s w c t first count good inv tex legal = record {
   ages = new_ages;
   locals = λ d. put_keeps (λ k q. q.local ≤ new.global) w.client c part d (omega arith) (omega (arith, tex.locals d, low));
@@ -388,7 +389,7 @@ place s w c t first count good inv tex legal = record {
         old_fresh : (k : ℕ) → in_run other k ≡ true → w.heap.age k ≤ (w.client d).local
         old_fresh k i = subst (λ v. v ≤ (w.client d).local) (rw ((out k i).0, (out k i).1) refl) (fresh k i)
 
-keep_textures : (s : Scene) (w : World) (e : Entry) → InRange s → Invariant s w → Textures s w → LegalEntry s w e → Textures s (after_entry s w e)
+keep_textures : (s : Scene) (w : World) (e : Entry) → IsWellFormed s → Invariant s w → Textures s w → LegalEntry s w e → Textures s (after_entry s w e)
 keep_textures s w (Light c) good = light s w c
 keep_textures s w (Kernel c found) good = kernel s w c found
 keep_textures s w (Stale c) good = stale s w c
@@ -405,17 +406,17 @@ pub record Sound (s : Scene) (w : World) : Type 0 where
   pub main : Invariant s w
   pub textures : Textures s w
 
-pub sound_opened : (s : Scene) → InRange s → Sound s (opening s)
+pub sound_opened : (s : Scene) → IsWellFormed s → Sound s (opening s)
 sound_opened s good = record { main = opened s good; textures = opened_textures s }
 
-pub sound_kept : (s : Scene) (w : World) (e : Entry) → InRange s → Sound s w → LegalEntry s w e → Sound s (after_entry s w e)
+pub sound_kept : (s : Scene) (w : World) (e : Entry) → IsWellFormed s → Sound s w → LegalEntry s w e → Sound s (after_entry s w e)
 sound_kept s w e good sound legal = record { main = keep s w e good sound.main legal; textures = keep_textures s w e good sound.main sound.textures legal }
 
-pub sound_along : (s : Scene) (w : World) (es : List Entry) → InRange s → Sound s w → LegalEntries s w es → Sound s (after_entries s w es)
+pub sound_along : (s : Scene) (w : World) (es : List Entry) → IsWellFormed s → Sound s w → LegalEntries s w es → Sound s (after_entries s w es)
 sound_along s w [] good sound allowed = sound
 sound_along s w (e ∷ es) good sound allowed = sound_along s (after_entry s w e) es good (sound_kept s w e good sound allowed.0) allowed.1
 
-pub sound_after : (s : Scene) (journal : List Entry) → InRange s → HoldRun s journal → Sound s (after s journal)
+pub sound_after : (s : Scene) (journal : List Entry) → IsWellFormed s → HoldRun s journal → Sound s (after s journal)
 sound_after s journal good run = sound_along s (opening s) journal good (sound_opened s good) run
 
 pub intact_at : (s : Scene) (w : World) → Sound s w → Intact s w

@@ -7,7 +7,7 @@ use Rattle.dri_base.specs.declared.scene.Scene.{Scene}
 use Rattle.dri_meaning.specs.EntryTable.{after_entry}
 use Rattle.dri_meaning.specs.Phases.{Ask, Asking, In, Old, Out, Over, is_done, is_holding, same_phase}
 use Rattle.dri_meaning.specs.Privates.{can_draw, can_run, is_ready, is_triangle, textured_with}
-use Rattle.dri_meaning.specs.Scenes.{command_at, is_named, regions_needed}
+use Rattle.dri_base.specs.Scenes.{command_at, is_named, regions_needed}
 use Rattle.dri_meaning.specs.Worlds.{World, opening}
 use Rattle.dri_model.specs.Groups.{bits, is_empty, same_number}
 use Rattle.dri_model.specs.Heaps.{is_place_for}

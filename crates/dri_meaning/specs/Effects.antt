@@ -7,7 +7,7 @@ use Rattle.dri_base.specs.declared.command.Command.TheVariants.{Clear, Die, Set,
 use Rattle.dri_base.specs.declared.scene.Scene.{Scene}
 use Rattle.dri_meaning.specs.Phases.{In, Old, Out, Phase, left_from, phase_after}
 use Rattle.dri_meaning.specs.Privates.{Private, is_bound_lost, placed_after, state_by, used_run}
-use Rattle.dri_meaning.specs.Scenes.{command_at, commands_of, window_of}
+use Rattle.dri_base.specs.Scenes.{command_at, commands_of, window_of}
 use Rattle.dri_meaning.specs.Solo.{drawn_by}
 use Rattle.dri_meaning.specs.Worlds.{World, clips_in}
 use Rattle.dri_model.specs.Stacks.{origin}

@@ -8,7 +8,7 @@ use Rattle.dri_meaning.specs.Effects.{after_leave, back_after, front_after, heap
 use Rattle.dri_meaning.specs.Phases.{Ask, Asking, Dead, In, Old, Out, Over, is_done, is_holding}
 use Rattle.dri_meaning.specs.Privates.{can_draw, can_run, is_ready, is_triangle, own_registers, textured_with, used_run}
 use Rattle.dri_meaning.specs.Restacks.{counter_after, front_painted, next_stack, stamps_after}
-use Rattle.dri_meaning.specs.Scenes.{bytes_of, command_at, is_named, regions_needed, textures_of}
+use Rattle.dri_base.specs.Scenes.{bytes_of, command_at, is_named, regions_needed, textures_of}
 use Rattle.dri_meaning.specs.Worlds.{World, put}
 use Rattle.dri_model.specs.Groups.{bits, is_empty, no_groups}
 use Rattle.dri_model.specs.Heaps.{allocated, is_place_for, uploaded}

@@ -9,7 +9,7 @@ use Rattle.dri_base.specs.declared.scene.Scene.{Scene}
 use Rattle.dri_base.specs.declared.shape.Triangle.{Triangle as TriangleShape}
 use Rattle.dri_meaning.specs.EntryTable.{after_entry}
 use Rattle.dri_meaning.specs.Runs.{after, after_entries}
-use Rattle.dri_meaning.specs.Scenes.{command_at, commands_of, script_of, window_of}
+use Rattle.dri_base.specs.Scenes.{command_at, commands_of, script_of, window_of}
 use Rattle.dri_meaning.specs.Solo.{frame, image_at, is_swap, solo_frame}
 use Rattle.dri_meaning.specs.Worlds.{World, clips_in}
 use Rattle.dri_model.specs.Stacks.{origin}

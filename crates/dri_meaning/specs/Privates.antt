@@ -11,7 +11,7 @@ use Rattle.dri_base.specs.declared.state.TexMode.{TexMode}
 use Rattle.dri_base.specs.declared.texture.BoundTexture.{BoundTexture}
 use Rattle.dri_base.specs.declared.texture.Texture.{Texture}
 use Rattle.dri_meaning.specs.Phases.{Phase, first_phase}
-use Rattle.dri_meaning.specs.Scenes.{textures_of}
+use Rattle.dri_base.specs.Scenes.{textures_of}
 use Rattle.dri_model.specs.Groups.{Groups, all_groups, is_empty}
 use Rattle.dri_model.specs.Heaps.{Run, any_in, lose}
 use Rattle.dri_model.specs.Words.{registers_for}

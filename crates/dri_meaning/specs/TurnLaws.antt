@@ -6,7 +6,7 @@ use Rattle.dri_base.specs.declared.scene.Scene.{Scene}
 use Rattle.dri_meaning.specs.CoreRuns.{after_events}
 use Rattle.dri_meaning.specs.Cores.{Core, opening_core}
 use Rattle.dri_meaning.specs.EventTable.{LegalEvent, after_event}
-use Rattle.dri_meaning.specs.Scenes.{command_at}
+use Rattle.dri_base.specs.Scenes.{command_at}
 use Rattle.dri_meaning.specs.Turns.{turn}
 use Rattle.dri_base.specs.declared.command.Command.TheVariants as Command_is
 use Rattle.dri_meaning.specs.Phases as Phase_is

@@ -11,7 +11,7 @@ use Rattle.dri_meaning.specs.Cores.{Core, is_first, is_next, is_queued, opening_
 use Rattle.dri_meaning.specs.EventTable.{after_event}
 use Rattle.dri_meaning.specs.Phases.{Phase, is_done, is_holding}
 use Rattle.dri_meaning.specs.Privates.{Private, textured_with}
-use Rattle.dri_meaning.specs.Scenes.{command_at, regions_needed}
+use Rattle.dri_base.specs.Scenes.{command_at, regions_needed}
 use Rattle.dri_meaning.specs.Worlds.{World}
 use Rattle.dri_model.specs.Groups.{bits, is_empty}
 use Rattle.dri_model.specs.Heaps.{classes_for, lowest_place}

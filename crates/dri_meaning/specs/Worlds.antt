@@ -7,7 +7,7 @@ use Rattle.dri_base.specs.declared.scene.Scene.{Scene}
 use Rattle.dri_base.specs.declared.scene.Window.{Window}
 use Rattle.dri_base.specs.declared.state.Registers.{Registers}
 use Rattle.dri_meaning.specs.Privates.{Private, opening_part}
-use Rattle.dri_meaning.specs.Scenes.{commands_of, window_of}
+use Rattle.dri_base.specs.Scenes.{commands_of, window_of}
 use Rattle.dri_meaning.specs.Solo.{blank}
 use Rattle.dri_model.specs.Heaps.{Heap}
 use Rattle.dri_model.specs.Stacks.{clips, ground_colour, top}

@@ -8,7 +8,7 @@ ghost use Rattle.dri_base.specs.declared.scene.Scene.{Scene};
 ghost use Rattle.dri_meaning.specs.Decide.{is_hold_run};
 ghost use Rattle.dri_meaning.specs.Frames.{Own, SoloLeft};
 ghost use Rattle.dri_meaning.specs.Runs.{after, HoldRun, Confined, LightIsCurrent, ActingIsCurrent, OwnerIsClean, Intact, BeginsWith, since, client_of};
-ghost use Rattle.dri_meaning.specs.Scenes.{InRange, client_numbers};
+ghost use Rattle.dri_base.specs.Ranges.{InRange, client_numbers};
 ghost use Rattle.dri_meaning.specs.Solo.{frame, IsFrame};
 
 use dri_base::{Entries, Scene};

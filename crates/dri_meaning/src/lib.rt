@@ -6,7 +6,7 @@ mod core_runs;
 mod hold_runs;
 mod worked;
 
-pub use core_runs::{core, turns, whole_where_passed};
+pub use core_runs::{core, rounds_end, turns};
 pub use hold_runs::{central, confined, decided, foreign, frames, own, solo_left};
 pub use worked::{
     a_scissor, a_triangle, changed_beside, covered_and_uncovered, covered_whole, death,
