@@ -95,28 +95,28 @@ pub invariant_on : (s : Scene) (w : World) (o : Option Entry) → IsWellFormed s
 invariant_on s w None good inv legal = inv
 invariant_on s w (Some e) good inv legal = sound_kept s w e good inv legal
 
-with_allowed : (s : Scene) (w : World) (o : Option Entry) (es : List Entry) → IsLegal s w o → LegalEntries s (world_after s w o) es → LegalEntries s w (with_entry o es)
-with_allowed s w None es legal more = more
-with_allowed s w (Some e) es legal more = (legal, more)
+with_entry_legal : (s : Scene) (w : World) (o : Option Entry) (es : List Entry) → IsLegal s w o → LegalEntries s (world_after s w o) es → LegalEntries s w (with_entry o es)
+with_entry_legal s w None es legal more = more
+with_entry_legal s w (Some e) es legal more = (legal, more)
 
-with_steps : (s : Scene) (w : World) (o : Option Entry) (es : List Entry) → after_entries s w (with_entry o es) ≡ after_entries s (world_after s w o) es
-with_steps s w None es = refl
-with_steps s w (Some e) es = refl
+with_entry_after : (s : Scene) (w : World) (o : Option Entry) (es : List Entry) → after_entries s w (with_entry o es) ≡ after_entries s (world_after s w o) es
+with_entry_after s w None es = refl
+with_entry_after s w (Some e) es = refl
 
-journal_allowed : (s : Scene) (k : Core) (events : List Event) → IsWellFormed s → Sound s k.world → Tied s k → LegalEvents s k events → LegalEntries s k.world (journal_of events)
-journal_allowed s k [] good inv tied possible = tt
-journal_allowed s k (e ∷ es) good inv tied possible =
+journal_is_legal : (s : Scene) (k : Core) (events : List Event) → IsWellFormed s → Sound s k.world → Tied s k → LegalEvents s k events → LegalEntries s k.world (journal_of events)
+journal_is_legal s k [] good inv tied possible = tt
+journal_is_legal s k (e ∷ es) good inv tied possible =
     let legal = legal_of s k e inv tied possible.0 in
-    with_allowed s k.world (entry_of e) (journal_of es) legal
-    (journal_allowed s (after_event s k e) es good (invariant_on s k.world (entry_of e) good inv legal) (tied_step s k e inv tied possible.0) possible.1)
+    with_entry_legal s k.world (entry_of e) (journal_of es) legal
+    (journal_is_legal s (after_event s k e) es good (invariant_on s k.world (entry_of e) good inv legal) (tied_step s k e inv tied possible.0) possible.1)
 
 pub journal_world : (s : Scene) (k : Core) (events : List Event) → after_entries s k.world (journal_of events) ≡ (after_events s k events).world
 journal_world s k [] = refl
-journal_world s k (e ∷ es) = with_steps s k.world (entry_of e) (journal_of es) ∙ journal_world s (after_event s k e) es
+journal_world s k (e ∷ es) = with_entry_after s k.world (entry_of e) (journal_of es) ∙ journal_world s (after_event s k e) es
 
 -- the journal of a run is a hold-run, and leaves the run's world
 pub journal_is_hold_run : (s : Scene) (events : List Event) → IsWellFormed s → IsRun s events → HoldRun s (journal_of events)
-journal_is_hold_run s events good run = journal_allowed s (opening_core s) events good (sound_opened s good) (tied_start s) run
+journal_is_hold_run s events good run = journal_is_legal s (opening_core s) events good (sound_opened s good) (tied_start s) run
 
 pub journal_after : (s : Scene) (events : List Event) → after s (journal_of events) ≡ (after_events s (opening_core s) events).world
 journal_after s events = journal_world s (opening_core s) events

@@ -36,7 +36,7 @@ use Rattle.dri_meaning.specs.Runs.{after, LegalEntries, HoldRun, IsCurrent, HasB
 use Rattle.dri_meaning.specs.Frames.{across, down, OwnAt, Own}
 use Rattle.dri_meaning.proofs.Invariant.{Invariant}
 use Rattle.dri_meaning.proofs.Textures.{Sound, sound_after}
-use Rattle.dri_meaning.proofs.Laws.{Allowed-append, acting_is_current}
+use Rattle.dri_meaning.proofs.Laws.{LegalEntries-append, acting_is_current}
 
 -- a texel lies in its image
 wrapped_below : (wrap : Wrap) (n side : ℕ) → 0 < side → wrapped wrap n side < side
@@ -172,4 +172,4 @@ pub own_run : (s : Scene) (journal : List Entry) → IsWellFormed s → HoldRun 
 own_run s journal good run past rest c i e = own_at s (after s past) c i good (sound_after s past good parts.0) parts.1.0
   where
     parts : LegalEntries s (after s []) past × LegalEntries s (after s past) (Run c i ∷ rest)
-    parts = Allowed-append s (after s []) past (Run c i ∷ rest) (rw e at run)
+    parts = LegalEntries-append s (after s []) past (Run c i ∷ rest) (rw e at run)

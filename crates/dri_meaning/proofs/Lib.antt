@@ -13,3 +13,5 @@ pub mod Aged
 pub mod Measures
 pub mod Rounds
 pub mod RunLaws
+pub mod Tallies
+pub mod Wholes

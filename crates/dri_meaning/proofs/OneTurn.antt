@@ -230,8 +230,8 @@ some_is e = cc
 none_is : {a : Event} → None ≡ Some a → ⊥
 none_is e = grind arith
 
-wait_possible : (s : Scene) (k : Core) (a : ℕ) (e : Event) → Wants s k a → can_take k a ≡ false → waiting k a ≡ Some e → LegalEvent s k e
-wait_possible s k a e wants stays h = by_queued (is_queued a k.queue) refl (is_first a k.queue) refl k.word.held refl k.word.contended refl
+wait_is_legal : (s : Scene) (k : Core) (a : ℕ) (e : Event) → Wants s k a → can_take k a ≡ false → waiting k a ≡ Some e → LegalEvent s k e
+wait_is_legal s k a e wants stays h = by_queued (is_queued a k.queue) refl (is_first a k.queue) refl k.word.held refl k.word.contended refl
   where
     by_queued : (b : Bool) → is_queued a k.queue ≡ b → (f : Bool) → is_first a k.queue ≡ f → (held : Bool) → k.word.held ≡ held → (m : Bool) → k.word.contended ≡ m → LegalEvent s k e
     by_queued false q f ef held eh m em = subst (LegalEvent s k) (some_is (rw q at h)) (wants, q, stays)
@@ -240,20 +240,20 @@ wait_possible s k a e wants stays h = by_queued (is_queued a k.queue) refl (is_f
     by_queued true q true ef false eh m em = absurd (none_is (rw (q, ef, eh) at h))
     by_queued true q false ef held eh m em = absurd (none_is (rw (q, ef) at h))
 
-or_possible : (s : Scene) (k : Core) (a : ℕ) (go e : Event) → (k.word.held ≡ false → IsNext a k.queue → LegalEvent s k go) → Wants s k a → (is_next a k.queue ≡ false → k.word.held ≡ false → can_take k a ≡ false) → or_waiting k a go ≡ Some e → LegalEvent s k e
-or_possible s k a go e can wants stays h = by_word k.word.held refl (is_next a k.queue) refl
+or_is_legal : (s : Scene) (k : Core) (a : ℕ) (go e : Event) → (k.word.held ≡ false → IsNext a k.queue → LegalEvent s k go) → Wants s k a → (is_next a k.queue ≡ false → k.word.held ≡ false → can_take k a ≡ false) → or_waiting k a go ≡ Some e → LegalEvent s k e
+or_is_legal s k a go e can wants stays h = by_word k.word.held refl (is_next a k.queue) refl
   where
     skipped : (not k.word.held && is_next a k.queue) ≡ false → waiting k a ≡ Some e
     skipped no_go = sym (cond-false (not k.word.held && is_next a k.queue) (Some go) (waiting k a) no_go) ∙ h
 
     by_word : (held : Bool) → k.word.held ≡ held → (n : Bool) → is_next a k.queue ≡ n → LegalEvent s k e
     by_word false eh true en = subst (LegalEvent s k) (some_is (rw (eh, en) at h)) (can eh (is_next_of a k.queue en))
-    by_word false eh false en = wait_possible s k a e wants (stays en eh) (skipped (rw (eh, en) refl))
-    by_word true eh n en = wait_possible s k a e wants (rw eh refl) (skipped (rw eh refl))
+    by_word false eh false en = wait_is_legal s k a e wants (stays en eh) (skipped (rw (eh, en) refl))
+    by_word true eh n en = wait_is_legal s k a e wants (rw eh refl) (skipped (rw eh refl))
 
-acting_possible : (s : Scene) (k : Core) (c : ℕ) (e : Event) → IsWellFormed s → (k.world.client c).phase ≡ Phase_is.In → (command : Option Command) → command_at s c (k.world.client c).place ≡ command → acting_turn s k.world c command ≡ Some e → LegalEvent s k e
-acting_possible s k c e good phase (Some Command_is.Die) is h = subst (LegalEvent s k) (some_is h) (inl (rw phase refl, inr (phase, is)))
-acting_possible s k c e good phase (Some (Command_is.Triangle t)) is h = by_texture (textured_with (k.world.client c).state) refl h
+acting_is_legal : (s : Scene) (k : Core) (c : ℕ) (e : Event) → IsWellFormed s → (k.world.client c).phase ≡ Phase_is.In → (command : Option Command) → command_at s c (k.world.client c).place ≡ command → acting_turn s k.world c command ≡ Some e → LegalEvent s k e
+acting_is_legal s k c e good phase (Some Command_is.Die) is h = subst (LegalEvent s k) (some_is h) (inl (rw phase refl, inr (phase, is)))
+acting_is_legal s k c e good phase (Some (Command_is.Triangle t)) is h = by_texture (textured_with (k.world.client c).state) refl h
   where
     p : Private
     p = k.world.client c
@@ -272,43 +272,43 @@ acting_possible s k c e good phase (Some (Command_is.Triangle t)) is h = by_text
     by_texture : (o : Option ℕ) → textured_with p.state ≡ o → triangle_turn s k.world c o ≡ Some e → LegalEvent s k e
     by_texture None st g = by_dirt (is_empty p.dirty) refl (rw st refl) g
     by_texture (Some u) st g = by_place u st (p.placed u) refl g
-acting_possible s k c e good phase (Some (Command_is.Set setting)) is h = subst (LegalEvent s k) (some_is h) (phase, refl, rw is refl)
-acting_possible s k c e good phase (Some (Command_is.Clear colour depth)) is h = subst (LegalEvent s k) (some_is h) (phase, refl, rw is refl)
-acting_possible s k c e good phase (Some Command_is.Swap) is h = subst (LegalEvent s k) (some_is h) (phase, refl, rw is refl)
-acting_possible s k c e good phase (Some Command_is.Yield) is h = subst (LegalEvent s k) (some_is h) (phase, refl, rw is refl)
-acting_possible s k c e good phase None is h = absurd (none_is h)
+acting_is_legal s k c e good phase (Some (Command_is.Set setting)) is h = subst (LegalEvent s k) (some_is h) (phase, refl, rw is refl)
+acting_is_legal s k c e good phase (Some (Command_is.Clear colour depth)) is h = subst (LegalEvent s k) (some_is h) (phase, refl, rw is refl)
+acting_is_legal s k c e good phase (Some Command_is.Swap) is h = subst (LegalEvent s k) (some_is h) (phase, refl, rw is refl)
+acting_is_legal s k c e good phase (Some Command_is.Yield) is h = subst (LegalEvent s k) (some_is h) (phase, refl, rw is refl)
+acting_is_legal s k c e good phase None is h = absurd (none_is h)
 
-turn_in_possible : (s : Scene) (k : Core) (c : ℕ) (e : Event) → IsWellFormed s → k.dying (suc c) ≡ false → (p : Phase) → (k.world.client (suc c)).phase ≡ p → turn_in s k (suc c) p ≡ Some e → LegalEvent s k e
-turn_in_possible s k c e good live Phase_is.Out phase h = by_name (not k.word.held && (k.word.context == suc c + 1)) refl
+turn_in_is_legal : (s : Scene) (k : Core) (c : ℕ) (e : Event) → IsWellFormed s → k.dying (suc c) ≡ false → (p : Phase) → (k.world.client (suc c)).phase ≡ p → turn_in s k (suc c) p ≡ Some e → LegalEvent s k e
+turn_in_is_legal s k c e good live Phase_is.Out phase h = by_name (not k.word.held && (k.word.context == suc c + 1)) refl
   where
     by_name : (b : Bool) → (not k.word.held && (k.word.context == suc c + 1)) ≡ b → LegalEvent s k e
     by_name true n = subst (LegalEvent s k) (some_is (rw n at h)) (live, phase, grind (arith, nat_tests), grind (arith, nat_tests))
-    by_name false n = or_possible s k (suc c) (Kernel (suc c) k.word.context) e
+    by_name false n = or_is_legal s k (suc c) (Kernel (suc c) k.word.context) e
         (λ free next. (live, phase, free, refl, grind (arith, nat_tests), next)) (inr (rw phase refl)) (λ en eh. rw (eh, en, live, phase) (grind (arith, nat_tests))) (rw n at h)
-turn_in_possible s k c e good live Phase_is.Old phase h = subst (LegalEvent s k) (some_is h) phase
-turn_in_possible s k c e good live Phase_is.In phase h = acting_possible s k (suc c) e good phase (command_at s (suc c) (k.world.client (suc c)).place) refl h
-turn_in_possible s k c e good live Phase_is.Over phase h = by_mark k.word.contended refl
+turn_in_is_legal s k c e good live Phase_is.Old phase h = subst (LegalEvent s k) (some_is h) phase
+turn_in_is_legal s k c e good live Phase_is.In phase h = acting_is_legal s k (suc c) e good phase (command_at s (suc c) (k.world.client (suc c)).place) refl h
+turn_in_is_legal s k c e good live Phase_is.Over phase h = by_mark k.word.contended refl
   where
     by_mark : (b : Bool) → k.word.contended ≡ b → LegalEvent s k e
     by_mark true m = subst (LegalEvent s k) (some_is (rw m at h)) (inl phase, m)
     by_mark false m = subst (LegalEvent s k) (some_is (rw m at h)) (inl phase, m)
-turn_in_possible s k c e good live Phase_is.Ask phase h = by_mark k.word.contended refl
+turn_in_is_legal s k c e good live Phase_is.Ask phase h = by_mark k.word.contended refl
   where
     by_mark : (b : Bool) → k.word.contended ≡ b → LegalEvent s k e
     by_mark true m = subst (LegalEvent s k) (some_is (rw m at h)) (inr phase, m)
     by_mark false m = subst (LegalEvent s k) (some_is (rw m at h)) (inr phase, m)
-turn_in_possible s k c e good live Phase_is.Asking phase h =
-    or_possible s k (suc c) (Info (suc c)) e (λ free next. (live, phase, free, next)) (inr (rw phase refl)) (λ en eh. rw (eh, en, live, phase) refl) h
-turn_in_possible s k c e good live Phase_is.Ended phase h = absurd (none_is h)
-turn_in_possible s k c e good live Phase_is.Dead phase h = absurd (none_is h)
+turn_in_is_legal s k c e good live Phase_is.Asking phase h =
+    or_is_legal s k (suc c) (Info (suc c)) e (λ free next. (live, phase, free, next)) (inr (rw phase refl)) (λ en eh. rw (eh, en, live, phase) refl) h
+turn_in_is_legal s k c e good live Phase_is.Ended phase h = absurd (none_is h)
+turn_in_is_legal s k c e good live Phase_is.Dead phase h = absurd (none_is h)
 
 -- what a turn brings is possible
-pub turn_possible : (s : Scene) (k : Core) (c : ℕ) (e : Event) → IsWellFormed s → turn_of s k (suc c) ≡ Some e → LegalEvent s k e
-turn_possible s k c e good h = by_stop (k.dying (suc c)) refl
+pub turn_is_legal : (s : Scene) (k : Core) (c : ℕ) (e : Event) → IsWellFormed s → turn_of s k (suc c) ≡ Some e → LegalEvent s k e
+turn_is_legal s k c e good h = by_stop (k.dying (suc c)) refl
   where
     by_stop : (b : Bool) → k.dying (suc c) ≡ b → LegalEvent s k e
-    by_stop true st = or_possible s k (suc c) (Gone (suc c)) e (λ free next. inr (st, free, next)) (inl st) (λ en eh. rw (eh, en, st) refl) (rw st at h)
-    by_stop false st = turn_in_possible s k c e good st (k.world.client (suc c)).phase refl (rw st at h)
+    by_stop true st = or_is_legal s k (suc c) (Gone (suc c)) e (λ free next. inr (st, free, next)) (inl st) (λ en eh. rw (eh, en, st) refl) (rw st at h)
+    by_stop false st = turn_in_is_legal s k c e good st (k.world.client (suc c)).phase refl (rw st at h)
 
 -- all that is known of a core along its runs
 pub record Known (s : Scene) (k : Core) : Type 0 where
@@ -384,20 +384,20 @@ one_event s k good known (Stop c) possible by = absurd by
 one_event s k good known (Gone c) possible by = as_turn s k c (Gone c) (gone_client s k c known by) (gone_turn s k c known possible by)
 
 -- what the server's turn brings is possible
-server_possible : (s : Scene) (k : Core) (e : Event) → Queued s k → server_turn s k ≡ Some e → LegalEvent s k e
-server_possible s k e q h = by_left (nat_lt k.world.made (length s.changes)) refl
+server_is_legal : (s : Scene) (k : Core) (e : Event) → Queued s k → server_turn s k ≡ Some e → LegalEvent s k e
+server_is_legal s k e q h = by_left (nat_lt k.world.made (length s.changes)) refl
   where
     by_left : (b : Bool) → nat_lt k.world.made (length s.changes) ≡ b → LegalEvent s k e
     by_left false l = absurd (none_is (rw l at h))
-    by_left true l = or_possible s k 0 (Change (k.world.made + 1)) e (λ free next. (free, refl, grind (arith, nat_tests), next)) (grind (arith, nat_tests)) (λ en eh. rw (eh, en, q.nobody) (by_stop (k.dying 0))) (rw l at h)
+    by_left true l = or_is_legal s k 0 (Change (k.world.made + 1)) e (λ free next. (free, refl, grind (arith, nat_tests), next)) (grind (arith, nat_tests)) (λ en eh. rw (eh, en, q.nobody) (by_stop (k.dying 0))) (rw l at h)
       where
         by_stop : (b : Bool) → (true && (false || (not b && false))) ≡ false
         by_stop true = refl
         by_stop false = refl
 
-pub turns_possible : (s : Scene) (k : Core) → IsWellFormed s → Known s k → TurnsAreLegal s k
-turns_possible s k good known zero e h = server_possible s k e known.queued h
-turns_possible s k good known (suc c) e h = turn_possible s k c e good h
+pub turns_are_legal : (s : Scene) (k : Core) → IsWellFormed s → Known s k → TurnsAreLegal s k
+turns_are_legal s k good known zero e h = server_is_legal s k e known.queued h
+turns_are_legal s k good known (suc c) e h = turn_is_legal s k c e good h
 
 -- a marked word: once it is free nobody's context is in it
 record Marked (k : Core) : Type 0 where
@@ -444,15 +444,15 @@ marked_along : (s : Scene) (k : Core) (es : List Event) → IsWellFormed s → K
 marked_along s k [] good known m all none = m
 marked_along s k (e ∷ es) good known m all none = marked_along s (after_event s k e) es good (known_step s k e good known all.0) (marked_step s k e known m all.0 none.0) all.1 none.1
 
-possible-append : (s : Scene) (k : Core) (past rest : List Event) → LegalEvents s k (past ++ rest) → LegalEvents s k past × LegalEvents s (after_events s k past) rest
-possible-append s k [] rest all = (tt, all)
-possible-append s k (e ∷ past) rest all = let h = possible-append s (after_event s k e) past rest all.1 in ((all.0, h.0), h.1)
+LegalEvents-append : (s : Scene) (k : Core) (past rest : List Event) → LegalEvents s k (past ++ rest) → LegalEvents s k past × LegalEvents s (after_events s k past) rest
+LegalEvents-append s k [] rest all = (tt, all)
+LegalEvents-append s k (e ∷ past) rest all = let h = LegalEvents-append s (after_event s k e) past rest all.1 in ((all.0, h.0), h.1)
 
 pub no_light_after_mark : (s : Scene) (events : List Event) → IsWellFormed s → IsRun s events → NoLightAfterMark s events
 no_light_after_mark s events good run past more a c e none light = no_context (m.free light.2) light.3
   where
     parts : LegalEvents s (opening_core s) past × LegalEvents s (after_events s (opening_core s) past) (Mark a ∷ more)
-    parts = possible-append s (opening_core s) past (Mark a ∷ more) (rw e at run)
+    parts = LegalEvents-append s (opening_core s) past (Mark a ∷ more) (rw e at run)
 
     k : Core
     k = after_events s (opening_core s) past

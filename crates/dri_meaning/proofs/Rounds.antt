@@ -27,7 +27,7 @@ use Rattle.dri_meaning.proofs.Aged.{Aged, aged_opened, aged_on}
 use Rattle.dri_meaning.proofs.Cores.{legal_of}
 use Rattle.dri_meaning.proofs.Endings.{Lively, lively_opened, lively_on}
 use Rattle.dri_meaning.proofs.Measures.{less}
-use Rattle.dri_meaning.proofs.OneTurn.{Known, known_start, known_step, turns_possible}
+use Rattle.dri_meaning.proofs.OneTurn.{Known, known_start, known_step, turns_are_legal}
 
 -- all that is known of a core on its way
 pub record Going (s : Scene) (k : Core) : Type 0 where
@@ -135,7 +135,7 @@ no_stop s k a e h c same = true≢false (sym (ap is_stop (h ∙ ap Some same)) �
 
 -- each turn leaves less to do
 pub turn_less : (s : Scene) (k : Core) → IsWellFormed s → Going s k → TurnsLeaveLess s k
-turn_less s k good going a e h = less s k going.known going.lively going.aged e (turns_possible s k good going.known a e h) (no_stop s k a e h)
+turn_less s k good going a e h = less s k going.known going.lively going.aged e (turns_are_legal s k good going.known a e h) (no_stop s k a e h)
 
 some_same : (a b : Event) → Some a ≡ Some b → a ≡ b
 some_same a b e = cc
@@ -175,7 +175,7 @@ scheduled_tail s (Kill d) items all c e = all c (rw e (or_true (d == c)))
     or_true false = refl
 
 item_legal : (s : Scene) (k : Core) (item : Item) (items : List Item) (e : Event) → IsWellFormed s → Going s k → Scheduled s (item ∷ items) → item_event s k item ≡ Some e → LegalEvent s k e
-item_legal s k (Turn a) items e good going all h = turns_possible s k good going.known a e h
+item_legal s k (Turn a) items e good going all h = turns_are_legal s k good going.known a e h
 item_legal s k (Kill c) items e good going all h = kill_legal s k c e (all c (rw same refl)) h
   where
     same : (c == c) ≡ true
@@ -238,7 +238,7 @@ turns_less s k (Turn a ∷ items) good going none = by_event (turn s k a) refl (
         (work_left s (after_events s k (one_event o ++ played s (core_after s k o) items)) ≤ work_left s k) × ((is_none o && all_pass s k items) ≡ false → work_left s (after_events s k (one_event o ++ played s (core_after s k o) items)) < work_left s k)
     by_event None h on = on k going
     by_event (Some e) h on =
-        let legal = turns_possible s k good going.known a e h in
+        let legal = turns_are_legal s k good going.known a e h in
         let less_now = turn_less s k good going a e h in
         let rest = (on (after_event s k e) (going_on s k e good going legal)).0 in
         (omega (arith, less_now, rest), λ x. omega (arith, less_now, rest))

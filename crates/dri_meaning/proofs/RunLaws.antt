@@ -17,11 +17,13 @@ use Rattle.dri_meaning.proofs.Cores.{journal_is_hold_run}
 use Rattle.dri_meaning.proofs.Draws.{own_run}
 use Rattle.dri_meaning.proofs.Endings as Endings
 use Rattle.dri_meaning.proofs.Laws.{confined_run, light_is_current, acting_is_current, owner_is_clean}
-use Rattle.dri_meaning.proofs.OneTurn.{one_event, turns_possible, known_after, no_light_after_mark}
+use Rattle.dri_meaning.proofs.OneTurn.{one_event, turns_are_legal, known_after, no_light_after_mark}
 use Rattle.dri_meaning.proofs.Rounds.{turn_less, going_after, turns_are_run, comes_to_an_end}
 use Rattle.dri_meaning.proofs.Stood as Stood
 use Rattle.dri_meaning.proofs.Textures.{sound_after, intact_at}
 use Rattle.std.specs.Prelude.{ℕ}
+use Rattle.dri_meaning.specs.Reports.{is_whole}
+use Rattle.dri_meaning.proofs.Wholes.{whole_is}
 
 module _ (s : Scene) (journal : List Entry) (good : InRange s) (run : HoldRun s journal) where
   -- who may take the word lightly is current
@@ -68,7 +70,7 @@ module _ (s : Scene) (events : List Event) (good : InRange s) (run : IsRun s eve
   one_turn = one_event s (after_events s (opening_core s) events) (well_formed s good) (known_after s events (well_formed s good) run)
 
   pub turns_legal : TurnsAreLegal s (after_events s (opening_core s) events)
-  turns_legal = turns_possible s (after_events s (opening_core s) events) (well_formed s good) (known_after s events (well_formed s good) run)
+  turns_legal = turns_are_legal s (after_events s (opening_core s) events) (well_formed s good) (known_after s events (well_formed s good) run)
 
   pub no_light : NoLightAfterMark s events
   no_light = no_light_after_mark s events (well_formed s good) run
@@ -92,3 +94,7 @@ turns_run s events good turns = subst (IsRun s) (sym turns.made) (scheduled_run 
 
 pub turns_whole : (s : Scene) (events : List Event) → InRange s → IsTurns s events → Whole s (journal_of events)
 turns_whole s events good turns = whole_where_passed s events good (turns_run s events good turns) turns.ended
+
+-- the check's words
+pub whole_decided : (s : Scene) (journal : List Entry) → InRange s → HoldRun s journal → is_whole s journal ≡ true → Whole s journal
+whole_decided s journal good run e = whole_is s journal (well_formed s good) run e

@@ -29,7 +29,7 @@ use Rattle.dri_meaning.specs.Solo.{is_clear, is_swap, IsFrame}
 use Rattle.dri_meaning.proofs.FrameNumbers.{is_frame}
 use Rattle.dri_model.proofs.Touches.{clips_kept, origin_kept, how_many_at}
 use Rattle.dri_meaning.proofs.Textures.{Sound, sound_along, sound_kept, sound_after}
-use Rattle.dri_meaning.proofs.Laws.{back_left, Allowed-append, acting_is_current}
+use Rattle.dri_meaning.proofs.Laws.{back_left, LegalEntries-append, acting_is_current}
 
 -- where a window shows
 window_at : (width height : ℕ) (ws : List Window) (n x y : ℕ) → clips width height ws n x y ≡ true → is_window n (top ws x y) ≡ true
@@ -228,7 +228,7 @@ solo_left s journal good run c k first last past middle later rest numbered e st
     frame = is_frame (commands_of s c) k first last numbered
 
     parts : LegalEntries s (opening s) past × LegalEntries s (after s past) (Run c first ∷ (middle ++ Run c last ∷ (later ++ rest)))
-    parts = Allowed-append s (opening s) past (Run c first ∷ (middle ++ Run c last ∷ (later ++ rest))) (rw e at run)
+    parts = LegalEntries-append s (opening s) past (Run c first ∷ (middle ++ Run c last ∷ (later ++ rest))) (rw e at run)
 
     inv_past : Sound s (after s past)
     inv_past = sound_after s past good parts.0
@@ -243,7 +243,7 @@ solo_left s journal good run c k first last past middle later rest numbered e st
     drawing = after_entries s cleared middle
 
     middle_run : LegalEntries s cleared middle × LegalEntries s drawing (Run c last ∷ (later ++ rest))
-    middle_run = Allowed-append s cleared middle (Run c last ∷ (later ++ rest)) parts.1.1
+    middle_run = LegalEntries-append s cleared middle (Run c last ∷ (later ++ rest)) parts.1.1
 
     inv_drawing : Sound s drawing
     inv_drawing = sound_along s cleared middle good inv_cleared middle_run.0
@@ -258,7 +258,7 @@ solo_left s journal good run c k first last past middle later rest numbered e st
     inv_swapped = sound_kept s drawing (Run c last) good inv_drawing middle_run.1.0
 
     later_run : LegalEntries s swapped later × LegalEntries s (after_entries s swapped later) rest
-    later_run = Allowed-append s swapped later rest middle_run.1.1
+    later_run = LegalEntries-append s swapped later rest middle_run.1.1
 
     shown : ShowsBetween s c first last (after_entries s swapped later)
     shown =

@@ -6,8 +6,9 @@ ghost use Rattle.dri_base.specs.declared.command.Command.{Command};
 ghost use Rattle.dri_base.specs.declared.journal.Entry.{Entry};
 ghost use Rattle.dri_base.specs.declared.scene.Scene.{Scene};
 ghost use Rattle.dri_meaning.specs.Decide.{is_hold_run};
-ghost use Rattle.dri_meaning.specs.Frames.{Own, SoloLeft};
-ghost use Rattle.dri_meaning.specs.Runs.{after, HoldRun, Confined, LightIsCurrent, ActingIsCurrent, OwnerIsClean, Intact, BeginsWith, since, client_of};
+ghost use Rattle.dri_meaning.specs.Frames.{Own, SoloLeft, FrameRan, FrameStood, Counts};
+ghost use Rattle.dri_meaning.specs.Reports.{tally, is_whole};
+ghost use Rattle.dri_meaning.specs.Runs.{Whole, after, HoldRun, Confined, LightIsCurrent, ActingIsCurrent, OwnerIsClean, Intact, BeginsWith, since, client_of};
 ghost use Rattle.dri_base.specs.Ranges.{InRange, client_numbers};
 ghost use Rattle.dri_meaning.specs.Solo.{frame, IsFrame};
 
@@ -61,4 +62,12 @@ pub fn decided()
 pub fn frames()
     ensures found { (commands : List Command) (k first last : ℕ) → frame commands k ≡ Some (first, last) → IsFrame commands k first last }
     ensures there { (commands : List Command) (k first last : ℕ) → IsFrame commands k first last → frame commands k ≡ Some (first, last) }
+{}
+
+/// The check counts exactly the frames that ran and those that stood, and tells exactly which hold-runs are whole.
+pub fn counted()
+    ensures frames { (s : Scene) (journal : List Entry) → HoldRun s journal → Counts (FrameRan s journal) (tally s journal).frames }
+    ensures stood { (s : Scene) (journal : List Entry) → HoldRun s journal → Counts (FrameStood s journal) (tally s journal).stood }
+    ensures whole { (s : Scene) (journal : List Entry) → InRange s → HoldRun s journal → is_whole s journal ≡ true → Whole s journal }
+    ensures not_whole { (s : Scene) (journal : List Entry) → Whole s journal → is_whole s journal ≡ true }
 {}
