@@ -15,3 +15,4 @@ pub mod Rounds
 pub mod RunLaws
 pub mod Tallies
 pub mod Wholes
+pub mod PlainDraws

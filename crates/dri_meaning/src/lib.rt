@@ -4,10 +4,12 @@
 
 mod core_runs;
 mod hold_runs;
+mod solo;
 mod worked;
 
 pub use core_runs::{core, rounds_end, turns};
 pub use hold_runs::{central, confined, counted, decided, foreign, frames, own, solo_left};
+pub use solo::solo_pixel;
 pub use worked::{
     a_scissor, a_triangle, changed_beside, covered_and_uncovered, covered_whole, death,
     killed_before, killed_in_a_hold, marked, two_blends, two_holds, two_textures,

@@ -1,5 +1,6 @@
 pub mod Lines
 pub mod Text
+pub mod Shapes
 pub mod Ppm
 pub mod Screen
 pub mod Notices
