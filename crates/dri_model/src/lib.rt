@@ -15,9 +15,11 @@ pub fn always_room()
     ensures { (n : ℕ) (h : Heap) (count : ℕ) → 0 < n → count ≤ n → is_place_for n h count (lowest_place n h count (classes_for n h count)) ≡ true }
 {}
 
-/// Words that the card takes leave the same registers, whatever they are read as.
+/// Register words that the card takes leave the same registers, whatever they are read as; and command words are one
+/// list of triangles.
 pub fn spelled()
-    ensures { (words : List ℕ) (a b : Spelled words) (old : Registers) → loaded a.groups a.registers old ≡ loaded b.groups b.registers old }
+    ensures triangles { (words : List ℕ) (a b : Buffer words) → a.triangles ≡ b.triangles }
+    ensures registers { (words : List ℕ) (a b : Spelled words) (old : Registers) → loaded a.groups a.registers old ≡ loaded b.groups b.registers old }
 {}
 
 /// A list of register words or command words goes wrong at one place and one word at most, and nowhere where the card
