@@ -19,8 +19,9 @@ use Rattle.dri_meaning.specs.Worlds.{World, opening}
 use Rattle.dri_meaning.specs.EventTable.{world_after}
 use Rattle.dri_meaning.proofs.Cores.{IsLegal}
 use Rattle.dri_model.specs.Stacks.{without_owner}
-use Rattle.dri_meaning.proofs.Invariant.{put_keeps, stamp_stood}
-use Rattle.dri_meaning.proofs.Textures.{Sound}
+use Rattle.dri_meaning.proofs.Keeping.{put_keeps}
+use Rattle.dri_meaning.proofs.Restacking.{stamp_stood}
+use Rattle.dri_meaning.proofs.Sound.{Sound}
 
 -- phases in which a client's stamp is old
 abbrev pub is_aged : Phase → Bool

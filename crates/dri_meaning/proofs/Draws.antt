@@ -35,7 +35,7 @@ use Rattle.dri_meaning.specs.Privates.{bound_at, bound_texture, run_of, is_ready
 use Rattle.dri_meaning.specs.Runs.{after, LegalEntries, HoldRun, IsCurrent, HasBytes}
 use Rattle.dri_meaning.specs.Frames.{across, down, OwnAt, Own}
 use Rattle.dri_meaning.proofs.Invariant.{Invariant}
-use Rattle.dri_meaning.proofs.Textures.{Sound, sound_after}
+use Rattle.dri_meaning.proofs.Sound.{Sound, sound_after}
 use Rattle.dri_meaning.proofs.Laws.{LegalEntries-append, acting_is_current}
 
 -- a texel lies in its image

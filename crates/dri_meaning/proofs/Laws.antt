@@ -17,7 +17,7 @@ use Rattle.dri_meaning.specs.EntryTable.{LegalEntry, after_entry}
 use Rattle.dri_meaning.specs.Effects.{front_after, back_after}
 use Rattle.dri_meaning.specs.Runs.{after_entries, LegalEntries, after, HoldRun, Confined, SameOutside, LightIsCurrent, ActingIsCurrent, OwnerIsClean, IsCurrent, client_of}
 use Rattle.dri_meaning.proofs.Invariant.{is_acting}
-use Rattle.dri_meaning.proofs.Textures.{Sound, sound_after}
+use Rattle.dri_meaning.proofs.Sound.{Sound, sound_after}
 
 -- a run in two parts
 pub after_entries-append : (s : Scene) (w : World) (past rest : List Entry) → after_entries s w (past ++ rest) ≡ after_entries s (after_entries s w past) rest

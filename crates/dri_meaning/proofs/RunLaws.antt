@@ -17,10 +17,13 @@ use Rattle.dri_meaning.proofs.Cores.{journal_is_hold_run}
 use Rattle.dri_meaning.proofs.Draws.{own_run}
 use Rattle.dri_meaning.proofs.Endings as Endings
 use Rattle.dri_meaning.proofs.Laws.{confined_run, light_is_current, acting_is_current, owner_is_clean}
-use Rattle.dri_meaning.proofs.OneTurn.{one_event, turns_are_legal, known_after, no_light_after_mark}
-use Rattle.dri_meaning.proofs.Rounds.{turn_less, going_after, turns_are_run, comes_to_an_end}
+use Rattle.dri_meaning.proofs.OneTurn.{one_event, turns_are_legal, no_light_after_mark}
+use Rattle.dri_meaning.proofs.TurnEvents.{known_after}
+use Rattle.dri_meaning.proofs.Going.{turn_less, going_after}
+use Rattle.dri_meaning.proofs.Rounds.{turns_are_run}
+use Rattle.dri_meaning.proofs.RoundsEnd.{comes_to_an_end}
 use Rattle.dri_meaning.proofs.Stood as Stood
-use Rattle.dri_meaning.proofs.Textures.{sound_after, intact_at}
+use Rattle.dri_meaning.proofs.Sound.{sound_after, intact_at}
 use Rattle.std.specs.Prelude.{ℕ}
 use Rattle.dri_meaning.specs.Reports.{is_whole}
 use Rattle.dri_meaning.proofs.Wholes.{whole_is}

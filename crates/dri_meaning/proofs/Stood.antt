@@ -28,7 +28,7 @@ use Rattle.dri_meaning.specs.Frames.{Stands, IsNoSwap, NoSwap, across, down, Sol
 use Rattle.dri_meaning.specs.Solo.{is_clear, is_swap, IsFrame}
 use Rattle.dri_meaning.proofs.FrameNumbers.{is_frame}
 use Rattle.dri_model.proofs.Touches.{clips_kept, origin_kept, how_many_at}
-use Rattle.dri_meaning.proofs.Textures.{Sound, sound_along, sound_kept, sound_after}
+use Rattle.dri_meaning.proofs.Sound.{Sound, sound_along, sound_kept, sound_after}
 use Rattle.dri_meaning.proofs.Laws.{back_left, LegalEntries-append, acting_is_current}
 
 -- where a window shows

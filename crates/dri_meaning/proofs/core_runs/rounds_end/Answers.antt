@@ -1,4 +1,4 @@
-use Rattle.dri_meaning.proofs.Rounds.{one_run}
+use Rattle.dri_meaning.proofs.RoundsEnd.{one_run}
 use Rattle.dri_meaning.proofs.RunLaws.{scheduled_run, ends, turns_whole, whole_where_passed}
 use Rattle.dri_meaning.proofs.core_runs.rounds_end.Goals as goal
 

@@ -1,5 +1,6 @@
 use Rattle.dri_meaning.proofs.RunLaws.{whole_decided}
-use Rattle.dri_meaning.proofs.Tallies.{frames_counted, stood_counted}
+use Rattle.dri_meaning.proofs.RanFrames.{frames_counted}
+use Rattle.dri_meaning.proofs.StoodFrames.{stood_counted}
 use Rattle.dri_meaning.proofs.Wholes.{is_whole_at}
 use Rattle.dri_meaning.proofs.hold_runs.counted.Goals as goal
 
