@@ -5,6 +5,8 @@
 mod core_runs;
 mod hold_runs;
 mod solo;
+#[cfg(test)]
+mod tests;
 mod worked;
 
 pub use core_runs::{core, rounds_end, turns};
