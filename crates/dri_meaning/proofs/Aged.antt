@@ -19,7 +19,7 @@ use Rattle.dri_meaning.specs.Worlds.{World, opening}
 use Rattle.dri_meaning.specs.EventTable.{world_after}
 use Rattle.dri_meaning.proofs.Cores.{IsLegal}
 use Rattle.dri_model.specs.Stacks.{without_owner}
-use Rattle.dri_meaning.proofs.Keeping.{put_keeps}
+use Rattle.dri_meaning.proofs.Parts.{put_keeps}
 use Rattle.dri_meaning.proofs.Restacking.{stamp_stood}
 use Rattle.dri_meaning.proofs.Sound.{Sound}
 

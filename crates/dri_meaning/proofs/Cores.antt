@@ -18,7 +18,7 @@ use Rattle.dri_meaning.specs.Cores.{Core, entry_of, with_entry, journal_of, open
 use Rattle.dri_meaning.specs.EventTable.{LegalEvent, after_event, world_after}
 use Rattle.dri_meaning.specs.CoreRuns.{after_events, LegalEvents, IsRun}
 use Rattle.std.proofs.lemmas.Bool.{true≢false}
-use Rattle.dri_meaning.proofs.Keeping.{put_keeps}
+use Rattle.dri_meaning.proofs.Parts.{put_keeps}
 use Rattle.dri_meaning.proofs.Sound.{Sound, sound_kept, sound_opened}
 
 -- the word, the holder and the stopped clients belong together

@@ -20,7 +20,7 @@ use Rattle.dri_meaning.specs.Runs.{after_entries, LegalEntries}
 use Rattle.dri_meaning.specs.Solo.{frame, is_swap, swaps_before, IsFrame}
 use Rattle.dri_meaning.specs.Worlds.{World}
 use Rattle.dri_meaning.proofs.FrameNumbers.{frame_is, one_more}
-use Rattle.dri_meaning.proofs.Keeping.{put_keeps, put_here}
+use Rattle.dri_meaning.proofs.Parts.{put_keeps, put_here}
 use Rattle.dri_meaning.proofs.OpenFrames.{IsOpen, OpenIn, Tracked, tracked_on}
 
 -- one item where the count is 1

@@ -1,17 +1,16 @@
 -- Entries of clients keep the central invariant.
-use Rattle.std.proofs.Common.{◌≡◌, ◌<◌, ◌≤◌, ℕ, true, arith, refl, sym, inl, inr, subst}
-use Rattle.std.specs.Prelude.{◌⊎◌}
+use Rattle.std.proofs.Common.{◌≡◌, ◌<◌, ◌≤◌, ℕ, true, arith, refl}
 use Rattle.std.proofs.lemmas.Bool.Decides.{nat_tests}
-use Rattle.std.proofs.lemmas.Bool.{cases_eq}
 use Rattle.dri_base.specs.declared.journal.Entry.TheVariants.{Light, Kernel, Stale, Emit, Place, Leave, Info, Run}
 use Rattle.dri_base.specs.declared.scene.Scene.{Scene}
 use Rattle.dri_base.proofs.RangeLemmas.{IsWellFormed}
 use Rattle.dri_base.specs.Scenes.{window_of, commands_of, command_at}
 use Rattle.dri_model.specs.Heaps.{is_newer}
-use Rattle.dri_meaning.specs.Worlds.{World, put}
-use Rattle.dri_meaning.specs.Privates.{Private, state_by}
+use Rattle.dri_meaning.specs.Worlds.{World}
+use Rattle.dri_meaning.specs.Privates.{state_by}
 use Rattle.dri_meaning.specs.EntryTable.{LegalEntry, after_entry}
 use Rattle.dri_meaning.specs.Effects.{run_by}
+use Rattle.dri_meaning.proofs.Parts.{put_keeps}
 use Rattle.dri_meaning.proofs.Invariant.{is_acting, Invariant, state_on, kept_shade, kept_blend, kept_mode, kept_wrap, kept_bound, kept_scissor, kept_depth, kept_run}
 
 pub light : (s : Scene) (w : World) (c : ℕ) → IsWellFormed s → Invariant s w → LegalEntry s w (Light c) → Invariant s (after_entry s w (Light c))
@@ -181,20 +180,6 @@ info s w c good inv legal = record {
   clean_bound = grind (arith, nat_tests);
   clean_scissor = grind (arith, nat_tests);
 }
-
-pub put_here : (f : ℕ → Private) (c : ℕ) (p : Private) → put f c p c ≡ p
-put_here f c p = grind (arith, nat_tests)
-
-pub put_there : (f : ℕ → Private) (c : ℕ) (p : Private) (d : ℕ) → (d ≡ c → ⊥) → put f c p d ≡ f d
-put_there f c p d ne = grind (arith, nat_tests)
-
--- what holds of a part holds of it wherever it is put
-pub put_keeps : (P : ℕ → Private → Type 0) (f : ℕ → Private) (c : ℕ) (p : Private) (d : ℕ) → P c p → P d (f d) → P d (put f c p d)
-put_keeps P f c p d here there = by_client (cases_eq d c)
-  where
-    by_client : (d ≡ c) ⊎ (d ≡ c → ⊥) → P d (put f c p d)
-    by_client (inl same) = subst (λ k. P k (put f c p k)) (sym same) (subst (P c) (sym (put_here f c p)) here)
-    by_client (inr ne) = subst (P d) (sym (put_there f c p d ne)) there
 
 pub ran : (s : Scene) (w : World) (c i : ℕ) → IsWellFormed s → Invariant s w → LegalEntry s w (Run c i) → Invariant s (after_entry s w (Run c i))
 ran s w c i good inv legal = record {

@@ -1,3 +1,4 @@
+pub mod Parts
 pub mod Invariant
 pub mod Keeping
 pub mod Restacking
@@ -32,3 +33,5 @@ pub mod StoodSince
 pub mod StoodFrames
 pub mod Wholes
 pub mod PlainDraws
+pub mod AgeBounds
+pub mod Bounds

@@ -19,7 +19,7 @@ use Rattle.dri_meaning.specs.Phases.{first_phase, is_holding, is_done, phase_aft
 use Rattle.dri_meaning.specs.Effects.{is_last, run_by, placed_by, taken_in}
 use Rattle.dri_meaning.specs.Runs.{LegalEntries, after_entries, after, HoldRun}
 use Rattle.dri_meaning.specs.EventTable.{world_after}
-use Rattle.dri_meaning.proofs.Keeping.{put_keeps}
+use Rattle.dri_meaning.proofs.Parts.{put_keeps}
 use Rattle.dri_meaning.proofs.Sound.{Sound, sound_kept, sound_opened}
 use Rattle.dri_meaning.proofs.Cores.{IsLegal}
 

@@ -20,7 +20,7 @@ use Rattle.dri_meaning.specs.Worlds.{put}
 use Rattle.dri_meaning.proofs.Aged.{Aged}
 use Rattle.dri_meaning.proofs.Lively.{Lively}
 use Rattle.dri_meaning.proofs.Endings.{has_command}
-use Rattle.dri_meaning.proofs.Keeping.{put_here, put_there}
+use Rattle.dri_meaning.proofs.Parts.{put_here, put_there}
 use Rattle.dri_meaning.proofs.TurnEvents.{Known}
 use Rattle.dri_meaning.proofs.WorkParts.{one_bound, sum_rises, sum_stays, sum_falls, listed, leaves_others, joins_others, joined, light_part, kernel_part, stale_part, ran_left, ran_part, leave_part, info_part, emit_part, place_part, queue_part, stamp_part, gone_part, same_left, one_less, enough, enough_here, enough_still}
 

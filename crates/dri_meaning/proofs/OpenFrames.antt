@@ -15,7 +15,7 @@ use Rattle.dri_meaning.specs.Privates.{Private}
 use Rattle.dri_meaning.specs.Reports.{Standing, NoClear, Stood, Cut, Tally, standing_after, cut_by, tally_after, tally}
 use Rattle.dri_meaning.specs.Solo.{is_clear, is_swap}
 use Rattle.dri_meaning.specs.Worlds.{World, opening, put}
-use Rattle.dri_meaning.proofs.Keeping.{put_keeps, put_there}
+use Rattle.dri_meaning.proofs.Parts.{put_keeps, put_there}
 
 -- a client's frame is open: it has a clear before this place, with neither clear nor swap since
 pub record IsOpen (cs : List Command) (first place : ℕ) : Type 0 where

@@ -8,7 +8,7 @@ use Rattle.dri_base.specs.declared.journal.Event.TheVariants.{Light, Kernel, Que
 use Rattle.dri_meaning.specs.Phases.{Phase}
 use Rattle.dri_meaning.specs.Phases as Phase_is
 use Rattle.dri_base.specs.declared.scene.Scene.{Scene}
-use Rattle.dri_meaning.proofs.Keeping.{put_keeps}
+use Rattle.dri_meaning.proofs.Parts.{put_keeps}
 use Rattle.dri_meaning.specs.Phases.{is_holding, is_done}
 use Rattle.dri_meaning.specs.Effects.{run_by}
 use Rattle.dri_meaning.specs.Cores.{Core, IsNext, is_next, is_queued, Wants}

@@ -20,7 +20,7 @@ use Rattle.dri_meaning.specs.Runs.{after_entries, LegalEntries, after, HoldRun}
 use Rattle.dri_meaning.specs.Solo.{is_clear, is_swap, swaps_before, IsFrame}
 use Rattle.dri_meaning.specs.Worlds.{World, opening}
 use Rattle.dri_meaning.proofs.FrameNumbers.{is_frame}
-use Rattle.dri_meaning.proofs.Keeping.{put_here}
+use Rattle.dri_meaning.proofs.Parts.{put_here}
 use Rattle.dri_meaning.proofs.Laws.{after_entries-append, LegalEntries-append}
 use Rattle.dri_meaning.proofs.OpenFrames.{IsOpen, Tracked, tracked_opened, tracked_on}
 use Rattle.dri_meaning.proofs.EndedFrames.{pick, ended, ends, stood_counting, stood_length, place_on, places_on, counted_swap, apart, counted_there, tally_append, open_frame}

@@ -18,7 +18,7 @@ use Rattle.dri_meaning.specs.Reports.{Standing, NoClear, Stood, Cut, Tally, stan
 use Rattle.dri_meaning.specs.Runs.{after_entries, after}
 use Rattle.dri_meaning.specs.Solo.{is_clear, is_swap}
 use Rattle.dri_meaning.specs.Worlds.{World, opening, put}
-use Rattle.dri_meaning.proofs.Keeping.{put_keeps, put_here, put_there}
+use Rattle.dri_meaning.proofs.Parts.{put_keeps, put_here, put_there}
 use Rattle.dri_meaning.proofs.Laws.{after_entries-append}
 use Rattle.dri_meaning.proofs.OpenFrames.{IsOpen, open_on, Tracked}
 

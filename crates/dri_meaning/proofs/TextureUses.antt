@@ -18,7 +18,7 @@ use Rattle.dri_meaning.specs.EntryTable.{LegalEntry, after_entry}
 use Rattle.dri_meaning.specs.Effects.{run_by, placed_by, run_at, heap_after, local_after}
 use Rattle.dri_model.proofs.Counts.{none_from}
 use Rattle.dri_meaning.proofs.Invariant.{Invariant, is_acting, acting_holds}
-use Rattle.dri_meaning.proofs.Keeping.{put_keeps}
+use Rattle.dri_meaning.proofs.Parts.{put_keeps}
 use Rattle.dri_meaning.proofs.Textures.{put_cases, Held, HeldBy, Textures, some_run, in_bounds, kept_one, byte_in_run}
 
 -- what a command does to the heap

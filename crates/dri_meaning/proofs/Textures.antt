@@ -18,7 +18,7 @@ use Rattle.dri_meaning.specs.Effects.{taken_in, run_at}
 use Rattle.dri_meaning.specs.Runs.{IsFresh, HasBytes}
 use Rattle.dri_model.proofs.Counts.{none_from}
 use Rattle.dri_meaning.proofs.Invariant.{Invariant, is_acting}
-use Rattle.dri_meaning.proofs.Keeping.{put_here, put_there, put_keeps}
+use Rattle.dri_meaning.proofs.Parts.{put_here, put_there, put_keeps}
 
 -- what is known of a part where another's is put, if it isn't the same client
 pub put_cases : (P : ℕ → Private → Type 0) (f : ℕ → Private) (c : ℕ) (p : Private) (d : ℕ) → P c p → ((d ≡ c → ⊥) → P d (f d)) → P d (put f c p d)

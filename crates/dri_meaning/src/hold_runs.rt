@@ -1,6 +1,6 @@
 //! The laws of hold-runs: the journals that the table of entries allows.
 
-ghost use Rattle.std.specs.Prelude.{◌≡◌, ◌≢◌, ◌++◌, ℕ, List, true, Some, Contains};
+ghost use Rattle.std.specs.Prelude.{◌≡◌, ◌≢◌, ◌≤◌, ◌+◌, length, ◌++◌, ℕ, List, true, Some, Contains};
 ghost use Rattle.std.specs.List.{All};
 ghost use Rattle.dri_base.specs.declared.command.Command.{Command};
 ghost use Rattle.dri_base.specs.declared.journal.Entry.{Entry};
@@ -10,6 +10,7 @@ ghost use Rattle.dri_meaning.specs.Frames.{Own, SoloLeft, FrameRan, FrameStood, 
 ghost use Rattle.dri_meaning.specs.Reports.{tally, is_whole};
 ghost use Rattle.dri_meaning.specs.Runs.{Whole, after, HoldRun, Confined, LightIsCurrent, ActingIsCurrent, OwnerIsClean, Intact, BeginsWith, since, client_of};
 ghost use Rattle.dri_base.specs.Ranges.{InRange, client_numbers};
+ghost use Rattle.dri_base.specs.Scenes.{commands_of};
 ghost use Rattle.dri_meaning.specs.Solo.{frame, IsFrame};
 
 use dri_base::{Entries, Scene};
@@ -70,4 +71,13 @@ pub fn counted()
     ensures stood { (s : Scene) (journal : List Entry) → HoldRun s journal → Counts (FrameStood s journal) (tally s journal).stood }
     ensures whole { (s : Scene) (journal : List Entry) → InRange s → HoldRun s journal → is_whole s journal ≡ true → Whole s journal }
     ensures not_whole { (s : Scene) (journal : List Entry) → Whole s journal → is_whole s journal ≡ true }
+{}
+
+/// How high counts can rise over a hold-run: the global age to 300,000, the stamps to 268,321, a client's place to one
+/// behind its last command, and the number of changes made to that of all changes.
+pub fn bounded()
+    ensures age { (s : Scene) (journal : List Entry) → InRange s → HoldRun s journal → (after s journal).heap.global ≤ 300000 }
+    ensures stamps { (s : Scene) (journal : List Entry) → InRange s → HoldRun s journal → (after s journal).counter ≤ 268321 }
+    ensures places { (s : Scene) (journal : List Entry) → InRange s → HoldRun s journal → (c : ℕ) → ((after s journal).client c).place ≤ length (commands_of s c) + 1 }
+    ensures made { (s : Scene) (journal : List Entry) → InRange s → HoldRun s journal → (after s journal).made ≤ length s.changes }
 {}

@@ -10,7 +10,9 @@ mod tests;
 mod worked;
 
 pub use core_runs::{core, rounds_end, turns};
-pub use hold_runs::{central, confined, counted, decided, foreign, frames, own, solo_left};
+pub use hold_runs::{
+    bounded, central, confined, counted, decided, foreign, frames, own, solo_left,
+};
 pub use solo::solo_pixel;
 pub use worked::{
     a_scissor, a_triangle, changed_beside, covered_and_uncovered, covered_whole, death,

@@ -1,9 +1,9 @@
 //! Each law once.
 
 use crate::{
-    a_scissor, a_triangle, central, changed_beside, confined, core, counted, covered_and_uncovered,
-    covered_whole, death, decided, frames, killed_before, killed_in_a_hold, marked, own,
-    rounds_end, solo_left, turns, two_blends, two_holds, two_textures,
+    a_scissor, a_triangle, bounded, central, changed_beside, confined, core, counted,
+    covered_and_uncovered, covered_whole, death, decided, frames, killed_before, killed_in_a_hold,
+    marked, own, rounds_end, solo_left, turns, two_blends, two_holds, two_textures,
 };
 
 #[test]
@@ -15,6 +15,7 @@ fn laws() {
     decided();
     frames();
     counted();
+    bounded();
     core();
     turns();
     rounds_end();
