@@ -14,13 +14,14 @@ use Rattle.dri_meaning.specs.EntryTable.{LegalEntry, after_entry}
 use Rattle.dri_meaning.specs.Phases.{Phase, Out, Old, In, Over, Ask, Asking, Ended, Dead, phase_after, left_from, first_phase}
 use Rattle.dri_meaning.specs.Privates.{Private}
 use Rattle.dri_meaning.specs.Restacks.{next_stack}
-use Rattle.dri_meaning.specs.Scenes.{window_of, command_at, commands_of}
+use Rattle.dri_base.specs.Scenes.{window_of, command_at, commands_of}
 use Rattle.dri_meaning.specs.Worlds.{World, opening}
 use Rattle.dri_meaning.specs.EventTable.{world_after}
 use Rattle.dri_meaning.proofs.Cores.{IsLegal}
 use Rattle.dri_model.specs.Stacks.{without_owner}
-use Rattle.dri_meaning.proofs.Invariant.{put_keeps, stamp_stood}
-use Rattle.dri_meaning.proofs.Textures.{Sound}
+use Rattle.dri_meaning.proofs.Parts.{put_keeps}
+use Rattle.dri_meaning.proofs.Restacking.{stamp_stood}
+use Rattle.dri_meaning.proofs.Sound.{Sound}
 
 -- phases in which a client's stamp is old
 abbrev pub is_aged : Phase → Bool

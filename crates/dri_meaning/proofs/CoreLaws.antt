@@ -5,7 +5,8 @@ use Rattle.dri_base.specs.declared.journal.Entry.TheVariants as Entry_is
 use Rattle.dri_base.specs.declared.journal.Event.{Event}
 use Rattle.dri_base.specs.declared.journal.Event.TheVariants.{Light, Kernel, Queue, Mark, Stale, Emit, Place, Run, LeaveLight, LeaveKernel, Info, Change, Stop, Gone}
 use Rattle.dri_base.specs.declared.scene.Scene.{Scene}
-use Rattle.dri_meaning.specs.Scenes.{InRange, window_of, command_at}
+use Rattle.dri_base.proofs.RangeLemmas.{IsWellFormed}
+use Rattle.dri_base.specs.Scenes.{window_of, command_at}
 use Rattle.dri_meaning.specs.Worlds.{World, clips_in}
 use Rattle.dri_meaning.specs.EntryTable.{after_entry}
 use Rattle.dri_meaning.specs.Runs.{after, after_entries, SameOutside}
@@ -28,7 +29,7 @@ journal-append : (past rest : List Event) → journal_of (past ++ rest) ≡ jour
 journal-append [] rest = refl
 journal-append (e ∷ es) rest = ap (with_entry (entry_of e)) (journal-append es rest) ∙ with_append (entry_of e) (journal_of es) (journal_of rest)
 
-pub confined_core : (s : Scene) (events : List Event) → InRange s → IsRun s events → ConfinedRun s events
+pub confined_core : (s : Scene) (events : List Event) → IsWellFormed s → IsRun s events → ConfinedRun s events
 confined_core s events good run past rest c i e =
     subst (λ w. SameOutside (clips_in s (world_of s past) c) (world_of s past) w) after_last
     (subst (λ w. SameOutside (clips_in s w c) w (after s (journal_of past ++ Entry_is.Run c i ∷ []))) (journal_after s past) law)
@@ -39,7 +40,7 @@ confined_core s events good run past rest c i e =
     after_last : after s (journal_of past ++ Entry_is.Run c i ∷ []) ≡ world_of s (past ++ Run c i ∷ [])
     after_last = ap (after s) (sym (journal-append past (Run c i ∷ []))) ∙ journal_after s (past ++ Run c i ∷ [])
 
-pub own_core : (s : Scene) (events : List Event) → InRange s → IsRun s events → OwnRun s events
+pub own_core : (s : Scene) (events : List Event) → IsWellFormed s → IsRun s events → OwnRun s events
 own_core s events good run past rest c i e =
     subst (λ w. OwnAt s w c i) (journal_after s past)
     (own_run s (journal_of events) good (journal_is_hold_run s events good run) (journal_of past) (journal_of rest) c i (ap journal_of e ∙ journal-append past (Run c i ∷ rest)))
@@ -75,7 +76,7 @@ noswap_journal : (s : Scene) (c : ℕ) (es : List Event) → NoSwapIn s c es →
 noswap_journal s c [] none = tt
 noswap_journal s c (e ∷ es) none = noswap_event s c e (journal_of es) none.0 (noswap_journal s c es none.1)
 
-pub solo_left_core : (s : Scene) (events : List Event) → InRange s → IsRun s events → SoloLeftRun s events
+pub solo_left_core : (s : Scene) (events : List Event) → IsWellFormed s → IsRun s events → SoloLeftRun s events
 solo_left_core s events good run c k first last past middle later rest frame e stands_middle stands_later none =
     subst (λ w. Shows s c k w) (ap (λ w. after_entries s (after_entry s w (Entry_is.Run c last)) (journal_of later)) (ap (λ w. after_entries s (after_entry s w (Entry_is.Run c first)) (journal_of middle)) (journal_after s past) ∙ journal_world s cleared middle) ∙ journal_world s swapped later) law
   where

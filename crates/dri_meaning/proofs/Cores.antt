@@ -7,7 +7,8 @@ use Rattle.dri_base.specs.declared.journal.Event.{Event}
 use Rattle.dri_base.specs.declared.journal.Event.TheVariants.{Light, Kernel, Queue, Mark, Stale, Emit, Place, Run, LeaveLight, LeaveKernel, Info, Change, Stop, Gone}
 use Rattle.dri_meaning.specs.Phases.{Phase}
 use Rattle.dri_base.specs.declared.scene.Scene.{Scene}
-use Rattle.dri_meaning.specs.Scenes.{InRange, is_named}
+use Rattle.dri_base.proofs.RangeLemmas.{IsWellFormed}
+use Rattle.dri_base.specs.Scenes.{is_named}
 use Rattle.dri_meaning.specs.Worlds.{World}
 use Rattle.dri_meaning.specs.EntryTable.{LegalEntry}
 use Rattle.dri_meaning.specs.Phases.{is_holding, is_done}
@@ -17,8 +18,8 @@ use Rattle.dri_meaning.specs.Cores.{Core, entry_of, with_entry, journal_of, open
 use Rattle.dri_meaning.specs.EventTable.{LegalEvent, after_event, world_after}
 use Rattle.dri_meaning.specs.CoreRuns.{after_events, LegalEvents, IsRun}
 use Rattle.std.proofs.lemmas.Bool.{true≢false}
-use Rattle.dri_meaning.proofs.Invariant.{put_keeps}
-use Rattle.dri_meaning.proofs.Textures.{Sound, sound_kept, sound_opened}
+use Rattle.dri_meaning.proofs.Parts.{put_keeps}
+use Rattle.dri_meaning.proofs.Sound.{Sound, sound_kept, sound_opened}
 
 -- the word, the holder and the stopped clients belong together
 pub record Tied (s : Scene) (k : Core) : Type 0 where
@@ -90,32 +91,32 @@ tied_step s k (Gone c) inv tied possible = record { held = grind arith; free = g
 pub tied_start : (s : Scene) → Tied s (opening_core s)
 tied_start s = record { held = grind arith; free = λ e. refl; left = λ e. inr refl; dying = grind arith }
 
-pub invariant_on : (s : Scene) (w : World) (o : Option Entry) → InRange s → Sound s w → IsLegal s w o → Sound s (world_after s w o)
+pub invariant_on : (s : Scene) (w : World) (o : Option Entry) → IsWellFormed s → Sound s w → IsLegal s w o → Sound s (world_after s w o)
 invariant_on s w None good inv legal = inv
 invariant_on s w (Some e) good inv legal = sound_kept s w e good inv legal
 
-with_allowed : (s : Scene) (w : World) (o : Option Entry) (es : List Entry) → IsLegal s w o → LegalEntries s (world_after s w o) es → LegalEntries s w (with_entry o es)
-with_allowed s w None es legal more = more
-with_allowed s w (Some e) es legal more = (legal, more)
+with_entry_legal : (s : Scene) (w : World) (o : Option Entry) (es : List Entry) → IsLegal s w o → LegalEntries s (world_after s w o) es → LegalEntries s w (with_entry o es)
+with_entry_legal s w None es legal more = more
+with_entry_legal s w (Some e) es legal more = (legal, more)
 
-with_steps : (s : Scene) (w : World) (o : Option Entry) (es : List Entry) → after_entries s w (with_entry o es) ≡ after_entries s (world_after s w o) es
-with_steps s w None es = refl
-with_steps s w (Some e) es = refl
+with_entry_after : (s : Scene) (w : World) (o : Option Entry) (es : List Entry) → after_entries s w (with_entry o es) ≡ after_entries s (world_after s w o) es
+with_entry_after s w None es = refl
+with_entry_after s w (Some e) es = refl
 
-journal_allowed : (s : Scene) (k : Core) (events : List Event) → InRange s → Sound s k.world → Tied s k → LegalEvents s k events → LegalEntries s k.world (journal_of events)
-journal_allowed s k [] good inv tied possible = tt
-journal_allowed s k (e ∷ es) good inv tied possible =
+journal_is_legal : (s : Scene) (k : Core) (events : List Event) → IsWellFormed s → Sound s k.world → Tied s k → LegalEvents s k events → LegalEntries s k.world (journal_of events)
+journal_is_legal s k [] good inv tied possible = tt
+journal_is_legal s k (e ∷ es) good inv tied possible =
     let legal = legal_of s k e inv tied possible.0 in
-    with_allowed s k.world (entry_of e) (journal_of es) legal
-    (journal_allowed s (after_event s k e) es good (invariant_on s k.world (entry_of e) good inv legal) (tied_step s k e inv tied possible.0) possible.1)
+    with_entry_legal s k.world (entry_of e) (journal_of es) legal
+    (journal_is_legal s (after_event s k e) es good (invariant_on s k.world (entry_of e) good inv legal) (tied_step s k e inv tied possible.0) possible.1)
 
 pub journal_world : (s : Scene) (k : Core) (events : List Event) → after_entries s k.world (journal_of events) ≡ (after_events s k events).world
 journal_world s k [] = refl
-journal_world s k (e ∷ es) = with_steps s k.world (entry_of e) (journal_of es) ∙ journal_world s (after_event s k e) es
+journal_world s k (e ∷ es) = with_entry_after s k.world (entry_of e) (journal_of es) ∙ journal_world s (after_event s k e) es
 
 -- the journal of a run is a hold-run, and leaves the run's world
-pub journal_is_hold_run : (s : Scene) (events : List Event) → InRange s → IsRun s events → HoldRun s (journal_of events)
-journal_is_hold_run s events good run = journal_allowed s (opening_core s) events good (sound_opened s good) (tied_start s) run
+pub journal_is_hold_run : (s : Scene) (events : List Event) → IsWellFormed s → IsRun s events → HoldRun s (journal_of events)
+journal_is_hold_run s events good run = journal_is_legal s (opening_core s) events good (sound_opened s good) (tied_start s) run
 
 pub journal_after : (s : Scene) (events : List Event) → after s (journal_of events) ≡ (after_events s (opening_core s) events).world
 journal_after s events = journal_world s (opening_core s) events

@@ -10,7 +10,7 @@ use Rattle.dri_base.specs.declared.command.Command.TheVariants.{Set, Clear, Tria
 use Rattle.dri_meaning.specs.Phases.{Phase}
 use Rattle.dri_meaning.specs.Phases.{In}
 use Rattle.dri_base.specs.declared.scene.Scene.{Scene}
-use Rattle.dri_meaning.specs.Scenes.{command_at, regions_needed}
+use Rattle.dri_base.specs.Scenes.{command_at, regions_needed}
 use Rattle.dri_model.specs.Groups.{same_number, bits, is_empty}
 use Rattle.dri_model.specs.Heaps as Heaps
 use Rattle.dri_model.specs.Heaps.{is_place_for}
@@ -93,10 +93,10 @@ is_legal s w (Change i) h = grind (arith, nat_tests)
 is_legal s w (Gone c) h = grind (arith, nat_tests)
 
 -- the test of a list of entries is the table's
-pub allowed_is : (s : Scene) (w : World) (es : List Entry) → are_legal_entries s w es ≡ true → LegalEntries s w es
-allowed_is s w [] e = tt
-allowed_is s w (x ∷ xs) e = let h = and_parts (is_legal_entry s w x) (are_legal_entries s (after_entry s w x) xs) e in (legal_is s w x h.0, allowed_is s (after_entry s w x) xs h.1)
+pub hold_run_from_test : (s : Scene) (w : World) (es : List Entry) → are_legal_entries s w es ≡ true → LegalEntries s w es
+hold_run_from_test s w [] e = tt
+hold_run_from_test s w (x ∷ xs) e = let h = and_parts (is_legal_entry s w x) (are_legal_entries s (after_entry s w x) xs) e in (legal_is s w x h.0, hold_run_from_test s (after_entry s w x) xs h.1)
 
-pub is_allowed : (s : Scene) (w : World) (es : List Entry) → LegalEntries s w es → are_legal_entries s w es ≡ true
-is_allowed s w [] h = refl
-is_allowed s w (x ∷ xs) h = rw (is_legal s w x h.0) (is_allowed s (after_entry s w x) xs h.1)
+pub test_from_hold_run : (s : Scene) (w : World) (es : List Entry) → LegalEntries s w es → are_legal_entries s w es ≡ true
+test_from_hold_run s w [] h = refl
+test_from_hold_run s w (x ∷ xs) h = rw (is_legal s w x h.0) (test_from_hold_run s (after_entry s w x) xs h.1)

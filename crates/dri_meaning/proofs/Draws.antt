@@ -18,7 +18,8 @@ use Rattle.dri_base.specs.declared.journal.Entry.{Entry}
 use Rattle.dri_base.specs.declared.journal.Entry.TheVariants.{Run}
 use Rattle.dri_base.specs.declared.shape.Triangle.{Triangle as Shape}
 use Rattle.dri_base.specs.declared.scene.Scene.{Scene}
-use Rattle.dri_meaning.specs.Scenes.{InRange, IsWhole, script_of, commands_of, textures_of, command_at, bytes_of, texel_bytes}
+use Rattle.dri_base.proofs.RangeLemmas.{IsWellFormed}
+use Rattle.dri_base.specs.Scenes.{IsWhole, script_of, commands_of, textures_of, command_at, bytes_of, texel_bytes}
 use Rattle.dri_base.specs.Texels.{texture_in}
 use Rattle.dri_base.specs.States.{state_at}
 use Rattle.dri_model.specs.Groups.{is_empty}
@@ -34,8 +35,8 @@ use Rattle.dri_meaning.specs.Privates.{bound_at, bound_texture, run_of, is_ready
 use Rattle.dri_meaning.specs.Runs.{after, LegalEntries, HoldRun, IsCurrent, HasBytes}
 use Rattle.dri_meaning.specs.Frames.{across, down, OwnAt, Own}
 use Rattle.dri_meaning.proofs.Invariant.{Invariant}
-use Rattle.dri_meaning.proofs.Textures.{Sound, sound_after}
-use Rattle.dri_meaning.proofs.Laws.{Allowed-append, acting_is_current}
+use Rattle.dri_meaning.proofs.Sound.{Sound, sound_after}
+use Rattle.dri_meaning.proofs.Laws.{LegalEntries-append, acting_is_current}
 
 -- a texel lies in its image
 wrapped_below : (wrap : Wrap) (n side : ℕ) → 0 < side → wrapped wrap n side < side
@@ -119,7 +120,7 @@ bound_same : (s : Scene) (w : World) (c : ℕ) → Invariant s w → w.owner ≡
 bound_same s w c inv own clean = inv.clean_bound c own (grind (arith, nat_tests))
 
 -- a triangle by the card is the triangle by the client's own state and image
-card_same : (s : Scene) (w : World) (c i : ℕ) (t : Shape) (x y : ℤ) (under : Pixel) → InRange s → Sound s w → LegalEntry s w (Run c i) → can_draw (w.client c) ≡ true →
+card_same : (s : Scene) (w : World) (c i : ℕ) (t : Shape) (x y : ℤ) (under : Pixel) → IsWellFormed s → Sound s w → LegalEntry s w (Run c i) → can_draw (w.client c) ≡ true →
     fragment (rules_in w.registers) (card_image w.memory w.registers.bound) t x y under ≡ fragment (rules_of (state_at (commands_of s c) i)) (image_at (script_of s c) i) t x y under
 card_same s w c i t x y under good sound legal can =
     ap (λ r. fragment r (card_image w.memory w.registers.bound) t x y under) (rules_same s w c sound.main own parts.0)
@@ -154,7 +155,7 @@ drawn_same a b f g ready (Some Die) x y under can same = refl
 drawn_same a b f g ready None x y under can same = refl
 
 -- after a run, at each pixel of the client's clips
-pub ran_back : (s : Scene) (w : World) (c i x y : ℕ) → InRange s → Sound s w → LegalEntry s w (Run c i) → clips_in s w c x y ≡ true →
+pub ran_back : (s : Scene) (w : World) (c i x y : ℕ) → IsWellFormed s → Sound s w → LegalEntry s w (Run c i) → clips_in s w c x y ≡ true →
     (after_entry s w (Run c i)).back x y ≡ drawn_at (script_of s c) i (across s w c x) (down s w c y) (w.back x y)
 ran_back s w c i x y good sound legal inside =
     rw (current.copy x y ∙ inside, current.place)
@@ -164,11 +165,11 @@ ran_back s w c i x y good sound legal inside =
     current : IsCurrent s w c
     current = acting_is_current s w sound c (inl legal.0)
 
-pub own_at : (s : Scene) (w : World) (c i : ℕ) → InRange s → Sound s w → LegalEntry s w (Run c i) → OwnAt s w c i
+pub own_at : (s : Scene) (w : World) (c i : ℕ) → IsWellFormed s → Sound s w → LegalEntry s w (Run c i) → OwnAt s w c i
 own_at s w c i good sound legal x y t is inside = ran_back s w c i x y good sound legal inside ∙ rw is refl
 
-pub own_run : (s : Scene) (journal : List Entry) → InRange s → HoldRun s journal → Own s journal
+pub own_run : (s : Scene) (journal : List Entry) → IsWellFormed s → HoldRun s journal → Own s journal
 own_run s journal good run past rest c i e = own_at s (after s past) c i good (sound_after s past good parts.0) parts.1.0
   where
     parts : LegalEntries s (after s []) past × LegalEntries s (after s past) (Run c i ∷ rest)
-    parts = Allowed-append s (after s []) past (Run c i ∷ rest) (rw e at run)
+    parts = LegalEntries-append s (after s []) past (Run c i ∷ rest) (rw e at run)

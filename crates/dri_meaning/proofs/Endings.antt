@@ -7,197 +7,42 @@ use Rattle.dri_base.specs.declared.scene.ClientScript.{ClientScript}
 use Rattle.dri_base.specs.declared.command.Item.TheVariants.{Turn}
 use Rattle.dri_base.specs.declared.command.Command.{Command}
 use Rattle.dri_base.specs.declared.command.Command.TheVariants as Command_is
-use Rattle.dri_base.specs.declared.journal.Entry.{Entry}
-use Rattle.dri_base.specs.declared.journal.Entry.TheVariants as Entry_is
 use Rattle.dri_base.specs.declared.journal.Event.{Event}
 use Rattle.dri_base.specs.declared.journal.Event.TheVariants.{Light, Kernel, Emit, Place, Run, LeaveLight, LeaveKernel, Gone, Info, Change}
 use Rattle.dri_meaning.specs.Phases.{Phase}
 use Rattle.dri_meaning.specs.Phases.{Out, Old, In, Over, Ask, Asking, Ended, Dead}
 use Rattle.dri_base.specs.declared.scene.Scene.{Scene}
-use Rattle.dri_meaning.specs.Scenes.{InRange, script_in, command_at, commands_of, regions_needed}
-use Rattle.dri_meaning.specs.Worlds.{World, opening}
-use Rattle.dri_meaning.specs.Privates.{Private, textured_with}
-use Rattle.dri_meaning.specs.EntryTable.{LegalEntry, after_entry}
-use Rattle.dri_meaning.specs.Phases.{first_phase, is_holding, is_done, phase_after, left_from}
-use Rattle.dri_meaning.specs.Effects.{is_last, run_by, placed_by, taken_in}
-use Rattle.dri_meaning.specs.Runs.{IsWholeWorld, Whole, LegalEntries, after_entries, after, HoldRun}
+use Rattle.dri_base.proofs.RangeLemmas.{IsWellFormed}
+use Rattle.dri_base.specs.Scenes.{script_in, command_at, commands_of, regions_needed}
+use Rattle.dri_meaning.specs.Worlds.{World}
+use Rattle.dri_meaning.specs.Privates.{textured_with}
+use Rattle.dri_meaning.specs.Phases.{is_holding, is_done}
+use Rattle.dri_meaning.specs.Runs.{IsWholeWorld, Whole}
 use Rattle.dri_meaning.specs.Cores.{Core, opening_core, journal_of, is_next, is_queued}
-use Rattle.dri_meaning.specs.EventTable.{world_after}
 use Rattle.dri_meaning.specs.CoreRuns.{after_events, IsRun}
 use Rattle.dri_meaning.specs.Phases.{wants_in}
 use Rattle.dri_meaning.specs.Turns.{turn, turn_of, turn_in, acting_turn, triangle_turn, emit_turn, or_waiting, server_turn, all_pass, round}
 use Rattle.dri_model.specs.Groups.{is_empty, bits}
 use Rattle.dri_model.specs.Heaps as Heaps
 use Rattle.dri_model.specs.Heaps.{lowest_place, classes_for}
-use Rattle.dri_meaning.proofs.Invariant.{put_keeps}
-use Rattle.dri_meaning.proofs.Textures.{Sound, sound_kept, sound_opened}
-use Rattle.dri_meaning.proofs.Cores.{IsLegal, journal_after, journal_is_hold_run}
-use Rattle.dri_meaning.proofs.OneTurn.{Known, known_after}
-
--- the client still has a command to run
-abbrev pub has_more : Phase → Bool
-has_more Out = true
-has_more Old = true
-has_more In = true
-has_more Ask = true
-has_more Asking = true
-has_more Over = false
-has_more Ended = false
-has_more Dead = false
-
-pub record Lively (s : Scene) (w : World) : Type 0 where
-  -- the holder is in a phase that holds
-  pub held : (c : ℕ) → w.holder ≡ Some c → is_holding (w.client c).phase ≡ true
-  pub more : (c : ℕ) → has_more (w.client c).phase ≡ true → (w.client c).place ≤ length (commands_of s c)
-  pub empty : (c : ℕ) → commands_of s c ≡ [] → (w.client c).phase ≡ Ended
-  pub made : w.made ≤ length s.changes
-
-abbrev HeldIn : World → ℕ → Private → Type 0
-HeldIn w c p = w.holder ≡ Some c → is_holding p.phase ≡ true
-
-abbrev MoreIn : Scene → ℕ → Private → Type 0
-MoreIn s c p = has_more p.phase ≡ true → p.place ≤ length (commands_of s c)
-
-abbrev EmptyIn : Scene → ℕ → Private → Type 0
-EmptyIn s c p = commands_of s c ≡ [] → p.phase ≡ Ended
-
-first_more : (cs : List Command) → has_more (first_phase cs) ≡ true → 1 ≤ length cs
-first_more [] e = absurd (true≢false (sym e))
-first_more (c ∷ cs) e = omega arith
-
-pub lively_opened : (s : Scene) → Lively s (opening s)
-lively_opened s = record { held = λ c h. absurd (grind arith); more = λ c. first_more (commands_of s c); empty = λ c e. rw e refl; made = omega arith }
-
--- a client with no command is in no other phase
-not_empty : (s : Scene) (w : World) (c : ℕ) (p : Phase) → Lively s w → (w.client c).phase ≡ p → (Ended ≡ p → ⊥) → commands_of s c ≡ [] → ⊥
-not_empty s w c p l is ne e = ne (sym (l.empty c e) ∙ is)
-
-ran_more : (s : Scene) (c i : ℕ) (command : Option Command) (last : Bool) → is_last s c i ≡ last → has_more (phase_after command last) ≡ true → i + 1 ≤ length (commands_of s c)
-ran_more s c i (Some Command_is.Swap) last is e = absurd (true≢false (sym e))
-ran_more s c i (Some Command_is.Yield) last is e = absurd (true≢false (sym e))
-ran_more s c i (Some (Command_is.Set setting)) true is e = absurd (true≢false (sym e))
-ran_more s c i (Some (Command_is.Clear colour depth)) true is e = absurd (true≢false (sym e))
-ran_more s c i (Some (Command_is.Triangle t)) true is e = absurd (true≢false (sym e))
-ran_more s c i (Some Command_is.Die) true is e = absurd (true≢false (sym e))
-ran_more s c i None true is e = absurd (true≢false (sym e))
-ran_more s c i (Some (Command_is.Set setting)) false is e = grind (arith, nat_tests)
-ran_more s c i (Some (Command_is.Clear colour depth)) false is e = grind (arith, nat_tests)
-ran_more s c i (Some (Command_is.Triangle t)) false is e = grind (arith, nat_tests)
-ran_more s c i (Some Command_is.Die) false is e = grind (arith, nat_tests)
-ran_more s c i None false is e = grind (arith, nat_tests)
-
-ran_holds : (command : Option Command) (last : Bool) → is_holding (phase_after command last) ≡ true
-ran_holds (Some Command_is.Swap) last = refl
-ran_holds (Some Command_is.Yield) last = refl
-ran_holds (Some (Command_is.Set setting)) true = refl
-ran_holds (Some (Command_is.Clear colour depth)) true = refl
-ran_holds (Some (Command_is.Triangle t)) true = refl
-ran_holds (Some Command_is.Die) true = refl
-ran_holds None true = refl
-ran_holds (Some (Command_is.Set setting)) false = refl
-ran_holds (Some (Command_is.Clear colour depth)) false = refl
-ran_holds (Some (Command_is.Triangle t)) false = refl
-ran_holds (Some Command_is.Die) false = refl
-ran_holds None false = refl
-
-left_more : (s : Scene) (c place : ℕ) → 0 < place → (p : Phase) → (p ≡ Over) ⊎ (p ≡ Ask) → (p ≡ Ask → place ≤ length (commands_of s c)) → (last : Bool) → is_last s c (pred place) ≡ last → has_more (left_from p last) ≡ true → place ≤ length (commands_of s c)
-left_more s c place l p (inr ask) old last is e = old ask
-left_more s c place l p (inl over) old true is e = absurd (true≢false (sym (rw over at e)))
-left_more s c place l p (inl over) old false is e = grind (arith, nat_tests)
-
-lively_step : (s : Scene) (w : World) (e : Entry) → Sound s w → Lively s w → LegalEntry s w e → Lively s (after_entry s w e)
-lively_step s w (Entry_is.Light c) sound l legal = record {
-  held = grind (arith, nat_tests, l.held);
-  more = λ d. put_keeps (MoreIn s) w.client c _ d (λ h. l.more c (rw legal.0 refl)) (l.more d);
-  empty = λ d. put_keeps (EmptyIn s) w.client c _ d (λ h. absurd (not_empty s w c Out l legal.0 (λ x. grind arith) h)) (l.empty d);
-  made = l.made;
-}
-lively_step s w (Entry_is.Kernel c found) sound l legal = record {
-  held = grind (arith, nat_tests, l.held);
-  more = λ d. put_keeps (MoreIn s) w.client c (taken_in s w c) d (λ h. l.more c (rw legal.0 refl)) (l.more d);
-  empty = λ d. put_keeps (EmptyIn s) w.client c (taken_in s w c) d (λ h. absurd (not_empty s w c Out l legal.0 (λ x. grind arith) h)) (l.empty d);
-  made = l.made;
-}
-lively_step s w (Entry_is.Stale c) sound l legal = record {
-  held = λ d. put_keeps (HeldIn w) w.client c _ d (λ h. refl) (l.held d);
-  more = λ d. put_keeps (MoreIn s) w.client c _ d (λ h. l.more c (rw legal refl)) (l.more d);
-  empty = λ d. put_keeps (EmptyIn s) w.client c _ d (λ h. absurd (not_empty s w c Old l legal (λ x. grind arith) h)) (l.empty d);
-  made = l.made;
-}
-lively_step s w (Entry_is.Emit c groups) sound l legal = record {
-  held = λ d. put_keeps (HeldIn w) w.client c _ d (l.held c) (l.held d);
-  more = λ d. put_keeps (MoreIn s) w.client c _ d (l.more c) (l.more d);
-  empty = λ d. put_keeps (EmptyIn s) w.client c _ d (l.empty c) (l.empty d);
-  made = l.made;
-}
-lively_step s w (Entry_is.Place c t first count) sound l legal = record {
-  held = λ d. put_keeps (HeldIn w) w.client c (placed_by s w c t first count) d (l.held c) (l.held d);
-  more = λ d. put_keeps (MoreIn s) w.client c (placed_by s w c t first count) d (l.more c) (l.more d);
-  empty = λ d. put_keeps (EmptyIn s) w.client c (placed_by s w c t first count) d (l.empty c) (l.empty d);
-  made = l.made;
-}
-lively_step s w (Entry_is.Run c i) sound l legal = record {
-  held = λ d. put_keeps (HeldIn w) w.client c (run_by s w c i) d (λ h. ran_holds (command_at s c i) (is_last s c i)) (l.held d);
-  more = λ d. put_keeps (MoreIn s) w.client c (run_by s w c i) d (ran_more s c i (command_at s c i) (is_last s c i) refl) (l.more d);
-  empty = λ d. put_keeps (EmptyIn s) w.client c (run_by s w c i) d (λ h. absurd (not_empty s w c In l legal.0 (λ x. grind arith) h)) (l.empty d);
-  made = l.made;
-}
-lively_step s w (Entry_is.Leave c) sound l legal = record {
-  held = λ d h. absurd (grind arith);
-  more = λ d. put_keeps (MoreIn s) w.client c _ d (left_more s c (w.client c).place (sound.main.started c) (w.client c).phase legal (λ a. l.more c (rw a refl)) (is_last s c (pred (w.client c).place)) refl) (l.more d);
-  empty = λ d. put_keeps (EmptyIn s) w.client c _ d (λ h. absurd (leaves h legal)) (l.empty d);
-  made = l.made;
-}
-  where
-    leaves : commands_of s c ≡ [] → ((w.client c).phase ≡ Over) ⊎ ((w.client c).phase ≡ Ask) → ⊥
-    leaves h (inl p) = not_empty s w c Over l p (λ x. grind arith) h
-    leaves h (inr p) = not_empty s w c Ask l p (λ x. grind arith) h
-lively_step s w (Entry_is.Info c) sound l legal = record {
-  held = λ d h. absurd (grind (arith, legal.1));
-  more = λ d. put_keeps (MoreIn s) w.client c _ d (λ h. l.more c (rw legal.0 refl)) (l.more d);
-  empty = λ d. put_keeps (EmptyIn s) w.client c _ d (λ h. absurd (not_empty s w c Asking l legal.0 (λ x. grind arith) h)) (l.empty d);
-  made = l.made;
-}
-lively_step s w (Entry_is.Change i) sound l legal = record { held = l.held; more = l.more; empty = l.empty; made = omega (arith, legal.1, legal.2) }
-lively_step s w (Entry_is.Gone c) sound l legal = record {
-  held = λ d h. absurd (grind arith);
-  more = λ d. put_keeps (MoreIn s) w.client c _ d (λ h. absurd (true≢false (sym h))) (l.more d);
-  empty = λ d. put_keeps (EmptyIn s) w.client c _ d (λ h. absurd (dies h legal)) (l.empty d);
-  made = l.made;
-}
-  where
-    ended : commands_of s c ≡ [] → is_done (w.client c).phase ≡ false → ⊥
-    ended h live = true≢false (sym (ap is_done (l.empty c h)) ∙ live)
-
-    dies : commands_of s c ≡ [] → LegalEntry s w (Entry_is.Gone c) → ⊥
-    dies h (inl p) = not_empty s w c In l p.0 (λ x. grind arith) h
-    dies h (inr p) = ended h p.1
-
-pub lively_on : (s : Scene) (w : World) (o : Option Entry) → Sound s w → Lively s w → IsLegal s w o → Lively s (world_after s w o)
-lively_on s w None sound l legal = l
-lively_on s w (Some e) sound l legal = lively_step s w e sound l legal
-
-lively_along : (s : Scene) (w : World) (es : List Entry) → InRange s → Sound s w → Lively s w → LegalEntries s w es → Lively s (after_entries s w es)
-lively_along s w [] good sound l all = l
-lively_along s w (e ∷ es) good sound l all = lively_along s (after_entry s w e) es good (sound_kept s w e good sound all.0) (lively_step s w e sound l all.0) all.1
-
-pub lively_after : (s : Scene) (journal : List Entry) → InRange s → HoldRun s journal → Lively s (after s journal)
-lively_after s journal good run = lively_along s (opening s) journal good (sound_opened s good) (lively_opened s) run
+use Rattle.dri_meaning.proofs.Cores.{journal_after, journal_is_hold_run}
+use Rattle.dri_meaning.proofs.TurnEvents.{Known, known_after}
+use Rattle.dri_meaning.proofs.Lively.{Lively, lively_after}
 
 -- whose turns would all be passed over
-none_there : (o : Option Event) → is_none o ≡ true → o ≡ None
+pub none_there : (o : Option Event) → is_none o ≡ true → o ≡ None
 none_there None e = refl
 none_there (Some x) e = absurd (true≢false (sym e))
 
 -- one event can't be none
-some_none : (o : Option Event) (e : Event) → o ≡ Some e → o ≡ None → ⊥
+pub some_none : (o : Option Event) (e : Event) → o ≡ Some e → o ≡ None → ⊥
 some_none o e a b = grind arith
 
-pass_server : (s : Scene) (k : Core) (ps : List ClientScript) → all_pass s k (map (λ p. Turn p.number) ps ++ Turn 0 ∷ []) ≡ true → server_turn s k ≡ None
+pub pass_server : (s : Scene) (k : Core) (ps : List ClientScript) → all_pass s k (map (λ p. Turn p.number) ps ++ Turn 0 ∷ []) ≡ true → server_turn s k ≡ None
 pass_server s k [] e = none_there (server_turn s k) (and_parts (is_none (server_turn s k)) true e).0
 pass_server s k (p ∷ ps) e = pass_server s k ps (and_parts (is_none (turn s k p.number)) (all_pass s k (map (λ p. Turn p.number) ps ++ Turn 0 ∷ [])) e).1
 
-pass_client : (s : Scene) (k : Core) (ps : List ClientScript) (c : ℕ) → ((script_in ps c).commands ≡ [] → ⊥) → all_pass s k (map (λ p. Turn p.number) ps ++ Turn 0 ∷ []) ≡ true → turn s k c ≡ None
+pub pass_client : (s : Scene) (k : Core) (ps : List ClientScript) (c : ℕ) → ((script_in ps c).commands ≡ [] → ⊥) → all_pass s k (map (λ p. Turn p.number) ps ++ Turn 0 ∷ []) ≡ true → turn s k c ≡ None
 pass_client s k [] c some e = absurd (some refl)
 pass_client s k (p ∷ ps) c some e = by_number (p.number == c) refl (pass_client s k ps c)
   where
@@ -212,15 +57,15 @@ pass_client s k (p ∷ ps) c some e = by_number (p.number == c) refl (pass_clien
     by_number false n on = on (λ h. some (rw n h)) parts.1
 
 -- a client with a command has a number above 0, so its turn is its own
-turn_client : (s : Scene) (k : Core) (c : ℕ) → InRange s → (commands_of s c ≡ [] → ⊥) → turn s k c ≡ None → turn_of s k c ≡ None
+pub turn_client : (s : Scene) (k : Core) (c : ℕ) → IsWellFormed s → (commands_of s c ≡ [] → ⊥) → turn s k c ≡ None → turn_of s k c ≡ None
 turn_client s k zero good some e = absurd (some good.numbered)
 turn_client s k (suc c) good some e = e
 
 -- an event that waits for nothing is made
-goes : (s : Scene) (k : Core) (a : ℕ) (e : Event) → k.word.held ≡ false → is_next a k.queue ≡ true → or_waiting k a e ≡ Some e
+pub goes : (s : Scene) (k : Core) (a : ℕ) (e : Event) → k.word.held ≡ false → is_next a k.queue ≡ true → or_waiting k a e ≡ Some e
 goes s k a e free next = rw (free, next) refl
 
-acts : (s : Scene) (w : World) (c : ℕ) (command : Option Command) → (command ≡ None → ⊥) → (e : Event) × (acting_turn s w c command ≡ Some e)
+pub acts : (s : Scene) (w : World) (c : ℕ) (command : Option Command) → (command ≡ None → ⊥) → (e : Event) × (acting_turn s w c command ≡ Some e)
 acts s w c None some = absurd (some refl)
 acts s w c (Some Command_is.Die) some = (_, refl)
 acts s w c (Some (Command_is.Set setting)) some = (_, refl)
@@ -242,13 +87,13 @@ acts s w c (Some (Command_is.Triangle t)) some = triangle (textured_with (w.clie
             (Place c u (lowest_place s.regions w.heap (regions_needed s c u) (classes_for s.regions w.heap (regions_needed s c u))) (regions_needed s c u), rw h refl)
         by_place (Some r) h = let x = emits (is_empty (w.client c).dirty) refl in (x.0, rw h x.1)
 
-there : (cs : List Command) (n : ℕ) → n < length cs → slice_get cs n ≡ None → ⊥
+pub there : (cs : List Command) (n : ℕ) → n < length cs → slice_get cs n ≡ None → ⊥
 there [] n l e = absurd (omega arith)
 there (c ∷ cs) zero l e = grind arith
 there (c ∷ cs) (suc n) l e = there cs n (omega arith) e
 
 -- a client that holds, or that is live where the word is free and nobody is before it, can go on
-moves : (s : Scene) (k : Core) (c : ℕ) → Known s k → Lively s k.world → (is_holding (k.world.client c).phase ≡ true) ⊎ ((is_done (k.world.client c).phase ≡ false) × (k.word.held ≡ false) × (is_next c k.queue ≡ true)) → turn_of s k c ≡ None → ⊥
+pub moves : (s : Scene) (k : Core) (c : ℕ) → Known s k → Lively s k.world → (is_holding (k.world.client c).phase ≡ true) ⊎ ((is_done (k.world.client c).phase ≡ false) × (k.word.held ≡ false) × (is_next c k.queue ≡ true)) → turn_of s k c ≡ None → ⊥
 moves s k c known l can stuck = by_stop (k.dying c) refl
   where
     in_phase : k.dying c ≡ false → (p : Phase) → (k.world.client c).phase ≡ p → (is_holding p ≡ true) ⊎ ((is_done p ≡ false) × (k.word.held ≡ false) × (is_next c k.queue ≡ true)) → (e : Event) × (turn_in s k c p ≡ Some e)
@@ -289,7 +134,7 @@ moves s k c known l can stuck = by_stop (k.dying c) refl
 pub has_command : (s : Scene) (w : World) (c : ℕ) → Lively s w → is_done (w.client c).phase ≡ false → commands_of s c ≡ [] → ⊥
 has_command s w c l live none = true≢false (sym (ap is_done (l.empty c none)) ∙ live)
 
-whole_at : (s : Scene) (k : Core) → InRange s → Known s k → Lively s k.world → all_pass s k (round s) ≡ true → IsWholeWorld s k.world
+pub whole_at : (s : Scene) (k : Core) → IsWellFormed s → Known s k → Lively s k.world → all_pass s k (round s) ≡ true → IsWholeWorld s k.world
 whole_at s k good known l pass = record {
   unheld = unheld;
   asking = λ c p. true≢false (sym (done c) ∙ rw p refl);
@@ -361,7 +206,7 @@ whole_at s k good known l pass = record {
         by_left false n = grind (arith, nat_tests, l.made)
 
 -- where a turn of each would be passed over, the journal is whole
-pub whole_where_passed : (s : Scene) (events : List Event) → InRange s → IsRun s events → all_pass s (after_events s (opening_core s) events) (round s) ≡ true → Whole s (journal_of events)
+pub whole_where_passed : (s : Scene) (events : List Event) → IsWellFormed s → IsRun s events → all_pass s (after_events s (opening_core s) events) (round s) ≡ true → Whole s (journal_of events)
 whole_where_passed s events good run pass = subst (IsWholeWorld s) (sym (journal_after s events)) (whole_at s (after_events s (opening_core s) events) good (known_after s events good run) lively pass)
   where
     lively : Lively s (after_events s (opening_core s) events).world

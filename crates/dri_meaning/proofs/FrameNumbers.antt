@@ -26,11 +26,11 @@ clear_at : (all : List Command) (place : ℕ) (c : Command) (cs : List Command) 
 clear_at all place c cs rest = ap is_clear (head_at all place c cs rest)
 
 -- one more swap, or none
-one_more : (all : List Command) (place : ℕ) → 0 < place → is_swap (slice_get all (pred place)) ≡ true → swaps_before all (place + 1) ≡ swaps_before all place + 1
+pub one_more : (all : List Command) (place : ℕ) → 0 < place → is_swap (slice_get all (pred place)) ≡ true → swaps_before all (place + 1) ≡ swaps_before all place + 1
 one_more all zero l e = absurd (omega arith)
 one_more all (suc i) l e = let h : pred (suc i + 1) ≡ suc i = omega arith in rw h (rw e (omega arith))
 
-no_more : (all : List Command) (place : ℕ) → 0 < place → is_swap (slice_get all (pred place)) ≡ false → swaps_before all (place + 1) ≡ swaps_before all place
+pub no_more : (all : List Command) (place : ℕ) → 0 < place → is_swap (slice_get all (pred place)) ≡ false → swaps_before all (place + 1) ≡ swaps_before all place
 no_more all zero l e = absurd (omega arith)
 no_more all (suc i) l e = let h : pred (suc i + 1) ≡ suc i = omega arith in rw h (rw e refl)
 

@@ -9,34 +9,35 @@ use Rattle.dri_base.specs.declared.command.Command.{Command}
 use Rattle.dri_base.specs.declared.command.Command.TheVariants.{Set, Clear, Triangle, Swap, Yield, Die}
 use Rattle.dri_base.specs.declared.journal.Entry.TheVariants.{Light, Kernel, Stale, Emit, Place, Leave, Info, Change, Run, Gone}
 use Rattle.dri_base.specs.declared.scene.Scene.{Scene}
-use Rattle.dri_meaning.specs.Scenes.{InRange, window_of, command_at}
+use Rattle.dri_base.proofs.RangeLemmas.{IsWellFormed}
+use Rattle.dri_base.specs.Scenes.{window_of, command_at}
 use Rattle.dri_meaning.specs.Worlds.{World, opening, clips_in}
 use Rattle.dri_meaning.specs.Privates.{Private}
 use Rattle.dri_meaning.specs.EntryTable.{LegalEntry, after_entry}
 use Rattle.dri_meaning.specs.Effects.{front_after, back_after}
 use Rattle.dri_meaning.specs.Runs.{after_entries, LegalEntries, after, HoldRun, Confined, SameOutside, LightIsCurrent, ActingIsCurrent, OwnerIsClean, IsCurrent, client_of}
 use Rattle.dri_meaning.proofs.Invariant.{is_acting}
-use Rattle.dri_meaning.proofs.Textures.{Sound, sound_after}
+use Rattle.dri_meaning.proofs.Sound.{Sound, sound_after}
 
 -- a run in two parts
-pub steps-append : (s : Scene) (w : World) (past rest : List Entry) → after_entries s w (past ++ rest) ≡ after_entries s (after_entries s w past) rest
-steps-append s w [] rest = refl
-steps-append s w (e ∷ past) rest = steps-append s (after_entry s w e) past rest
+pub after_entries-append : (s : Scene) (w : World) (past rest : List Entry) → after_entries s w (past ++ rest) ≡ after_entries s (after_entries s w past) rest
+after_entries-append s w [] rest = refl
+after_entries-append s w (e ∷ past) rest = after_entries-append s (after_entry s w e) past rest
 
-pub Allowed-append : (s : Scene) (w : World) (past rest : List Entry) → LegalEntries s w (past ++ rest) → LegalEntries s w past × LegalEntries s (after_entries s w past) rest
-Allowed-append s w [] rest allowed = (tt, allowed)
-Allowed-append s w (e ∷ past) rest allowed = let h = Allowed-append s (after_entry s w e) past rest allowed.1 in ((allowed.0, h.0), h.1)
+pub LegalEntries-append : (s : Scene) (w : World) (past rest : List Entry) → LegalEntries s w (past ++ rest) → LegalEntries s w past × LegalEntries s (after_entries s w past) rest
+LegalEntries-append s w [] rest allowed = (tt, allowed)
+LegalEntries-append s w (e ∷ past) rest allowed = let h = LegalEntries-append s (after_entry s w e) past rest allowed.1 in ((allowed.0, h.0), h.1)
 
-pub append-LegalEntries : (s : Scene) (w : World) (past rest : List Entry) → LegalEntries s w past → LegalEntries s (after_entries s w past) rest → LegalEntries s w (past ++ rest)
-append-LegalEntries s w [] rest before more = more
-append-LegalEntries s w (e ∷ past) rest before more = (before.0, append-LegalEntries s (after_entry s w e) past rest before.1 more)
+pub LegalEntries-from_parts : (s : Scene) (w : World) (past rest : List Entry) → LegalEntries s w past → LegalEntries s (after_entries s w past) rest → LegalEntries s w (past ++ rest)
+LegalEntries-from_parts s w [] rest before more = more
+LegalEntries-from_parts s w (e ∷ past) rest before more = (before.0, LegalEntries-from_parts s (after_entry s w e) past rest before.1 more)
 
 -- one entry more
 pub after-push : (s : Scene) (journal : List Entry) (e : Entry) → after s (journal ++ e ∷ []) ≡ after_entry s (after s journal) e
-after-push s journal e = steps-append s (opening s) journal (e ∷ [])
+after-push s journal e = after_entries-append s (opening s) journal (e ∷ [])
 
 pub HoldRun-push : (s : Scene) (journal : List Entry) (e : Entry) → HoldRun s journal → LegalEntry s (after s journal) e → HoldRun s (journal ++ e ∷ [])
-HoldRun-push s journal e run legal = append-LegalEntries s (opening s) journal (e ∷ []) run (legal, tt)
+HoldRun-push s journal e run legal = LegalEntries-from_parts s (opening s) journal (e ∷ []) run (legal, tt)
 
 -- one entry more of a list that is gone through
 pub HoldRun-more : (s : Scene) (xs : List Entry) (i : ℕ) (d : Entry) → i < length xs → HoldRun s (take i xs) → LegalEntry s (after s (take i xs)) (get_or xs i d) → HoldRun s (take (i + 1) xs)
@@ -96,30 +97,30 @@ same_outside s w c i copy = record { front = λ x y o. front (command_at s c i) 
     front (Some Die) x y o = refl
     front None x y o = refl
 
-pub confined_run : (s : Scene) (journal : List Entry) → InRange s → HoldRun s journal → Confined s journal
+pub confined_run : (s : Scene) (journal : List Entry) → IsWellFormed s → HoldRun s journal → Confined s journal
 confined_run s journal good run past rest c i e =
-    rw steps-append (same_outside s (after s past) c i current.copy)
+    rw after_entries-append (same_outside s (after s past) c i current.copy)
   where
     parts : LegalEntries s (opening s) past × LegalEntries s (after s past) (Run c i ∷ rest)
-    parts = Allowed-append s (opening s) past (Run c i ∷ rest) (rw e at run)
+    parts = LegalEntries-append s (opening s) past (Run c i ∷ rest) (rw e at run)
 
     current : IsCurrent s (after s past) c
     current = acting_is_current s (after s past) (sound_after s past good parts.0) c (inl parts.1.0.0)
 
 -- others leave a client's part
-foreign_step : (s : Scene) (w : World) (e : Entry) (c : ℕ) → client_of e ≢ c → (after_entry s w e).client c ≡ w.client c
-foreign_step s w (Light d) c ne = grind (arith, nat_tests)
-foreign_step s w (Kernel d found) c ne = grind (arith, nat_tests)
-foreign_step s w (Stale d) c ne = grind (arith, nat_tests)
-foreign_step s w (Leave d) c ne = grind (arith, nat_tests)
-foreign_step s w (Info d) c ne = grind (arith, nat_tests)
-foreign_step s w (Change i) c ne = refl
-foreign_step s w (Emit d groups) c ne = grind (arith, nat_tests)
-foreign_step s w (Place d t first count) c ne = grind (arith, nat_tests)
-foreign_step s w (Gone d) c ne = grind (arith, nat_tests)
-foreign_step s w (Run d i) c ne = grind (arith, nat_tests)
+foreign_entry : (s : Scene) (w : World) (e : Entry) (c : ℕ) → client_of e ≢ c → (after_entry s w e).client c ≡ w.client c
+foreign_entry s w (Light d) c ne = grind (arith, nat_tests)
+foreign_entry s w (Kernel d found) c ne = grind (arith, nat_tests)
+foreign_entry s w (Stale d) c ne = grind (arith, nat_tests)
+foreign_entry s w (Leave d) c ne = grind (arith, nat_tests)
+foreign_entry s w (Info d) c ne = grind (arith, nat_tests)
+foreign_entry s w (Change i) c ne = refl
+foreign_entry s w (Emit d groups) c ne = grind (arith, nat_tests)
+foreign_entry s w (Place d t first count) c ne = grind (arith, nat_tests)
+foreign_entry s w (Gone d) c ne = grind (arith, nat_tests)
+foreign_entry s w (Run d i) c ne = grind (arith, nat_tests)
 
-pub foreign_steps : (s : Scene) (w : World) (es : List Entry) (c : ℕ) → All (λ e. client_of e ≢ c) es → (after_entries s w es).client c ≡ w.client c
-foreign_steps s w [] c others = refl
-foreign_steps s w (e ∷ es) c others =
-    foreign_steps s (after_entry s w e) es c (λ k d l. others (suc k) d (omega arith)) ∙ foreign_step s w e c (others 0 e (omega arith))
+pub foreign_entries : (s : Scene) (w : World) (es : List Entry) (c : ℕ) → All (λ e. client_of e ≢ c) es → (after_entries s w es).client c ≡ w.client c
+foreign_entries s w [] c others = refl
+foreign_entries s w (e ∷ es) c others =
+    foreign_entries s (after_entry s w e) es c (λ k d l. others (suc k) d (omega arith)) ∙ foreign_entry s w e c (others 0 e (omega arith))

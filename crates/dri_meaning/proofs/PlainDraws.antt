@@ -1,5 +1,5 @@
 -- What a script without settings draws.
-use Rattle.std.proofs.Common.{◌≡◌, ℕ, suc, ◌+◌, List, [], ◌∷◌, All, Bool, true, false, ◌&&◌, if◌then◌else◌, Option, Some, None, ℤ, take, length, pred, refl, sym, ap, ◌∙◌, subst, add-one, arith, rules}
+use Rattle.std.proofs.Common.{◌≡◌, ℕ, suc, ◌+◌, List, [], ◌∷◌, All, Bool, true, false, ◌&&◌, if◌then◌else◌, Some, None, ℤ, take, pred, refl, sym, ap, ◌∙◌, add-one, arith}
 use Rattle.std.specs.Prelude.{slice_get}
 use Rattle.std.proofs.lemmas.List.Elements.{All-take, All-tail}
 use Rattle.dri_base.specs.declared.colour.Pixel.{Pixel}

@@ -9,7 +9,8 @@ use Rattle.dri_base.specs.declared.command.Command.{Command}
 use Rattle.dri_base.specs.declared.command.Command.TheVariants.{Set, Clear, Triangle, Swap, Yield, Die}
 use Rattle.dri_base.specs.declared.journal.Entry.TheVariants.{Light, Kernel, Stale, Emit, Place, Leave, Info, Change, Run, Gone}
 use Rattle.dri_base.specs.declared.scene.Scene.{Scene}
-use Rattle.dri_meaning.specs.Scenes.{InRange, window_of, command_at, commands_of, script_of}
+use Rattle.dri_base.proofs.RangeLemmas.{IsWellFormed}
+use Rattle.dri_base.specs.Scenes.{window_of, command_at, commands_of, script_of}
 use Rattle.dri_model.specs.Stacks.{clips, origin, top, is_window, without_owner, same_top}
 use Rattle.dri_base.specs.declared.colour.Pixel.{Pixel}
 use Rattle.dri_base.specs.States.{state_at}
@@ -27,8 +28,8 @@ use Rattle.dri_meaning.specs.Frames.{Stands, IsNoSwap, NoSwap, across, down, Sol
 use Rattle.dri_meaning.specs.Solo.{is_clear, is_swap, IsFrame}
 use Rattle.dri_meaning.proofs.FrameNumbers.{is_frame}
 use Rattle.dri_model.proofs.Touches.{clips_kept, origin_kept, how_many_at}
-use Rattle.dri_meaning.proofs.Textures.{Sound, sound_along, sound_kept, sound_after}
-use Rattle.dri_meaning.proofs.Laws.{back_left, Allowed-append, acting_is_current}
+use Rattle.dri_meaning.proofs.Sound.{Sound, sound_along, sound_kept, sound_after}
+use Rattle.dri_meaning.proofs.Laws.{back_left, LegalEntries-append, acting_is_current}
 
 -- where a window shows
 window_at : (width height : ℕ) (ws : List Window) (n x y : ℕ) → clips width height ws n x y ≡ true → is_window n (top ws x y) ≡ true
@@ -64,12 +65,12 @@ can_script : (cs : List Command) (i : ℕ) (ready : Bool) → can_run ready (sli
 can_script cs i ready is none = true≢false (sym is ∙ ap (λ l. can_run ready (slice_get l i)) none)
 
 -- a client that runs a command beside c draws on another window
-other_window : (s : Scene) (w : World) (c d first i : ℕ) → InRange s → d ≢ c → is_clear (slice_get (commands_of s c) (pred first)) ≡ true → LegalEntry s w (Run d i) → window_of s c ≢ window_of s d
+other_window : (s : Scene) (w : World) (c d first i : ℕ) → IsWellFormed s → d ≢ c → is_clear (slice_get (commands_of s c) (pred first)) ≡ true → LegalEntry s w (Run d i) → window_of s c ≢ window_of s d
 other_window s w c d first i good ne is legal same =
     ne (sym (good.apart c d (has_script (commands_of s c) (pred first) is) (can_script (commands_of s d) (pred i) (can_draw (w.client d)) legal.2) same))
 
 -- the client's own command goes on by one
-drawn_own : (s : Scene) (w : World) (c i first n : ℕ) → InRange s → Sound s w → LegalEntry s w (Run c i) → Drawn s c first n w → Drawn s c first (suc n) (after_entry s w (Run c i))
+drawn_own : (s : Scene) (w : World) (c i first n : ℕ) → IsWellFormed s → Sound s w → LegalEntry s w (Run c i) → Drawn s c first n w → Drawn s c first (suc n) (after_entry s w (Run c i))
 drawn_own s w c i first n good inv legal drawn = record {
   at = grind (arith, nat_tests, drawn.at, legal.1);
   back = λ x y inside. ran_back s w c i x y good inv legal inside ∙ rw (place, drawn.back x y inside) refl;
@@ -87,7 +88,7 @@ drawn_clear r image (Some Yield) x y under is = absurd (true≢false (sym is))
 drawn_clear r image (Some Die) x y under is = absurd (true≢false (sym is))
 drawn_clear r image None x y under is = absurd (true≢false (sym is))
 
-drawn_first : (s : Scene) (w : World) (c first : ℕ) → InRange s → Sound s w → LegalEntry s w (Run c first) → is_clear (slice_get (commands_of s c) (pred first)) ≡ true → Drawn s c first 0 (after_entry s w (Run c first))
+drawn_first : (s : Scene) (w : World) (c first : ℕ) → IsWellFormed s → Sound s w → LegalEntry s w (Run c first) → is_clear (slice_get (commands_of s c) (pred first)) ≡ true → Drawn s c first 0 (after_entry s w (Run c first))
 drawn_first s w c first good inv legal is = record {
   at = grind (arith, nat_tests);
   back = λ x y inside. ran_back s w c first x y good inv legal inside ∙ drawn_clear (rules_of (state_at (commands_of s c) first)) (image_at (script_of s c) first) (command_at s c first) (across s w c x) (down s w c y) (w.back x y) is;
@@ -102,7 +103,7 @@ restack_at s w new c x y plane value untouched before inside =
     (before (sym (clips_kept s.width s.height w.stack new (window_of s c) x y untouched) ∙ inside))
 
 -- one entry on
-drawn_step : (s : Scene) (w : World) (e : Entry) (c first n : ℕ) → InRange s → Sound s w → LegalEntry s w e → is_clear (slice_get (commands_of s c) (pred first)) ≡ true →
+drawn_step : (s : Scene) (w : World) (e : Entry) (c first n : ℕ) → IsWellFormed s → Sound s w → LegalEntry s w e → is_clear (slice_get (commands_of s c) (pred first)) ≡ true →
     (after_entry s w e).stamps (window_of s c) ≡ w.stamps (window_of s c) → Drawn s c first n w → (m : ℕ) × Drawn s c first m (after_entry s w e)
 drawn_step s w (Light d) c first n good inv legal is keeps drawn = (n, record { at = grind (arith, nat_tests, drawn.at); back = drawn.back })
 drawn_step s w (Kernel d found) c first n good inv legal is keeps drawn = (n, record { at = grind (arith, nat_tests, drawn.at); back = drawn.back })
@@ -133,7 +134,7 @@ drawn_step s w (Run d i) c first n good inv legal is keeps drawn = by_client (ca
       },
     )
 
-drawn_steps : (s : Scene) (w : World) (es : List Entry) (c first n : ℕ) → InRange s → Sound s w → LegalEntries s w es → is_clear (slice_get (commands_of s c) (pred first)) ≡ true →
+drawn_steps : (s : Scene) (w : World) (es : List Entry) (c first n : ℕ) → IsWellFormed s → Sound s w → LegalEntries s w es → is_clear (slice_get (commands_of s c) (pred first)) ≡ true →
     Stands s (window_of s c) w es → Drawn s c first n w → (m : ℕ) × Drawn s c first m (after_entries s w es)
 drawn_steps s w [] c first n good inv allowed is stands drawn = (n, drawn)
 drawn_steps s w (e ∷ es) c first n good inv allowed is stands drawn =
@@ -182,7 +183,7 @@ tops_same n (Some a) None ia ib = absurd (true≢false (sym ib))
 tops_same n (Some a) (Some b) ia ib = grind (arith, nat_tests)
 
 -- what is shown stays under a new stack that leaves the window
-shows_restacked : (s : Scene) (w : World) (new : List Window) (c first last : ℕ) → InRange s → Sound s w → stamps_after s w new (window_of s c) ≡ w.stamps (window_of s c) → ShowsBetween s c first last w →
+shows_restacked : (s : Scene) (w : World) (new : List Window) (c first last : ℕ) → IsWellFormed s → Sound s w → stamps_after s w new (window_of s c) ≡ w.stamps (window_of s c) → ShowsBetween s c first last w →
     (x y : ℕ) → clips s.width s.height new (window_of s c) x y ≡ true →
     front_painted s w new x y ≡ (solo (script_of s c) first (last - suc first) (pos x -ℤ (origin new (window_of s c)).0) (pos y -ℤ (origin new (window_of s c)).1)).colour
 shows_restacked s w new c first last good inv keeps shows x y inside =
@@ -195,7 +196,7 @@ shows_restacked s w new c first last good inv keeps shows x y inside =
     kept_clip : clips s.width s.height new (window_of s c) x y ≡ clips_in s w c x y
     kept_clip = clips_kept s.width s.height w.stack new (window_of s c) x y untouched
 
-shows_step : (s : Scene) (w : World) (e : Entry) (c first last : ℕ) → InRange s → Sound s w → LegalEntry s w e → is_clear (slice_get (commands_of s c) (pred first)) ≡ true →
+shows_step : (s : Scene) (w : World) (e : Entry) (c first last : ℕ) → IsWellFormed s → Sound s w → LegalEntry s w e → is_clear (slice_get (commands_of s c) (pred first)) ≡ true →
     (after_entry s w e).stamps (window_of s c) ≡ w.stamps (window_of s c) → IsNoSwap s c e → ShowsBetween s c first last w → ShowsBetween s c first last (after_entry s w e)
 shows_step s w (Light d) c first last good inv legal is keeps noswap shows = shows
 shows_step s w (Kernel d found) c first last good inv legal is keeps noswap shows = shows
@@ -212,14 +213,14 @@ shows_step s w (Run d i) c first last good inv legal is keeps noswap shows = λ 
     by_client x y inside (inl same) = inl (false_from_ne_true _ (λ swaps. noswap i (subst (λ k. is_swap (command_at s k i) ≡ true) same swaps) (ap (λ k. Run k i) same)))
     by_client x y inside (inr ne) = inr ((acting_is_current s w inv d (inl legal.0)).copy x y ∙ apart_at s w c d x y (other_window s w c d first i good ne is legal) inside)
 
-shows_steps : (s : Scene) (w : World) (es : List Entry) (c first last : ℕ) → InRange s → Sound s w → LegalEntries s w es → is_clear (slice_get (commands_of s c) (pred first)) ≡ true →
+shows_steps : (s : Scene) (w : World) (es : List Entry) (c first last : ℕ) → IsWellFormed s → Sound s w → LegalEntries s w es → is_clear (slice_get (commands_of s c) (pred first)) ≡ true →
     Stands s (window_of s c) w es → NoSwap s c es → ShowsBetween s c first last w → ShowsBetween s c first last (after_entries s w es)
 shows_steps s w [] c first last good inv allowed is stands noswap shows = shows
 shows_steps s w (e ∷ es) c first last good inv allowed is stands noswap shows =
     shows_steps s (after_entry s w e) es c first last good (sound_kept s w e good inv allowed.0) allowed.1 is stands.1 noswap.1 (shows_step s w e c first last good inv allowed.0 is stands.0 noswap.0 shows)
 
 -- each frame that stood is left alone in its clips
-pub solo_left : (s : Scene) (journal : List Entry) → InRange s → HoldRun s journal → SoloLeft s journal
+pub solo_left : (s : Scene) (journal : List Entry) → IsWellFormed s → HoldRun s journal → SoloLeft s journal
 solo_left s journal good run c k first last past middle later rest numbered e stands_middle stands_later noswap x y inside =
     rw numbered (ap Some (shown x y inside))
   where
@@ -227,7 +228,7 @@ solo_left s journal good run c k first last past middle later rest numbered e st
     frame = is_frame (commands_of s c) k first last numbered
 
     parts : LegalEntries s (opening s) past × LegalEntries s (after s past) (Run c first ∷ (middle ++ Run c last ∷ (later ++ rest)))
-    parts = Allowed-append s (opening s) past (Run c first ∷ (middle ++ Run c last ∷ (later ++ rest))) (rw e at run)
+    parts = LegalEntries-append s (opening s) past (Run c first ∷ (middle ++ Run c last ∷ (later ++ rest))) (rw e at run)
 
     inv_past : Sound s (after s past)
     inv_past = sound_after s past good parts.0
@@ -242,7 +243,7 @@ solo_left s journal good run c k first last past middle later rest numbered e st
     drawing = after_entries s cleared middle
 
     middle_run : LegalEntries s cleared middle × LegalEntries s drawing (Run c last ∷ (later ++ rest))
-    middle_run = Allowed-append s cleared middle (Run c last ∷ (later ++ rest)) parts.1.1
+    middle_run = LegalEntries-append s cleared middle (Run c last ∷ (later ++ rest)) parts.1.1
 
     inv_drawing : Sound s drawing
     inv_drawing = sound_along s cleared middle good inv_cleared middle_run.0
@@ -257,7 +258,7 @@ solo_left s journal good run c k first last past middle later rest numbered e st
     inv_swapped = sound_kept s drawing (Run c last) good inv_drawing middle_run.1.0
 
     later_run : LegalEntries s swapped later × LegalEntries s (after_entries s swapped later) rest
-    later_run = Allowed-append s swapped later rest middle_run.1.1
+    later_run = LegalEntries-append s swapped later rest middle_run.1.1
 
     shown : ShowsBetween s c first last (after_entries s swapped later)
     shown =

@@ -15,11 +15,12 @@ pub record Word : Type 0 where
   pub contended : Bool
   pub context : ℕ
 
--- the word as a number: bit 31 held, bit 30 contended, the rest the context
+-- the value of a bit, where it is set
 abbrev pub bit_of : Bool → ℕ → ℕ
 bit_of true value = value
 bit_of false value = 0
 
+-- the word as a number: bit 31 held, bit 30 contended, the rest the context
 abbrev pub word_number : Word → ℕ
 word_number w = bit_of w.held 0x80000000 + (bit_of w.contended 0x40000000 + w.context)
 
@@ -68,7 +69,7 @@ abbrev pub IsFirst : ℕ → List ℕ → Type 0
 IsFirst a [] = ⊥
 IsFirst a (b ∷ bs) = b ≡ a
 
--- the client isn't stopped
+-- the client isn't dying
 abbrev pub IsLive : Core → ℕ → Type 0
 IsLive k c = k.dying c ≡ false
 
@@ -81,7 +82,7 @@ abbrev pub is_next : ℕ → List ℕ → Bool
 is_next a [] = true
 is_next a (b ∷ bs) = b == a
 
--- client 0 is the server
+-- the actor wants a hold: the server where a change is left, a client where it is dying, out or asking
 abbrev pub Wants : Scene → Core → ℕ → Type 0
 Wants s k zero = suc k.world.made ≤ length s.changes
 Wants s k (suc c) = (k.dying (suc c) ≡ true) ⊎ (wants_in (k.world.client (suc c)).phase ≡ true)

@@ -7,13 +7,13 @@ use Rattle.dri_base.specs.declared.scene.Scene.{Scene}
 use Rattle.dri_meaning.specs.EntryTable.{after_entry}
 use Rattle.dri_meaning.specs.Phases.{Ask, Asking, In, Old, Out, Over, is_done, is_holding, same_phase}
 use Rattle.dri_meaning.specs.Privates.{can_draw, can_run, is_ready, is_triangle, textured_with}
-use Rattle.dri_meaning.specs.Scenes.{command_at, is_named, regions_needed}
+use Rattle.dri_base.specs.Scenes.{command_at, is_named, regions_needed}
 use Rattle.dri_meaning.specs.Worlds.{World, opening}
 use Rattle.dri_model.specs.Groups.{bits, is_empty, same_number}
 use Rattle.dri_model.specs.Heaps.{is_place_for}
 use Rattle.dri_base.specs.declared.journal.Entry.TheVariants as Entry_is
 
--- the next command is die
+-- the command is die
 abbrev pub is_die : Option Command → Bool
 is_die (Some Die) = true
 is_die (Some (Set setting)) = false
@@ -23,7 +23,7 @@ is_die (Some Swap) = false
 is_die (Some Yield) = false
 is_die None = false
 
--- the entry is allowed, as a test
+-- where an entry is legal, as a test
 abbrev pub is_legal_entry : Scene → World → Entry → Bool
 is_legal_entry s w (Entry_is.Light c) = same_phase (w.client c).phase Out && (is_none w.holder && (w.left == c + 1))
 is_legal_entry s w (Entry_is.Kernel c found) =
@@ -42,7 +42,7 @@ is_legal_entry s w (Entry_is.Gone c) =
     (same_phase (w.client c).phase In && is_die (command_at s c (w.client c).place)) ||
     (is_named s c && (not (is_done (w.client c).phase) && (is_holding (w.client c).phase || is_none w.holder)))
 
--- the entries are allowed one after another, as a test
+-- each entry is legal in the world that those before it leave, as a test
 abbrev pub are_legal_entries : Scene → World → List Entry → Bool
 are_legal_entries s w [] = true
 are_legal_entries s w (e ∷ es) = is_legal_entry s w e && are_legal_entries s (after_entry s w e) es

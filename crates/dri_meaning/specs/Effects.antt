@@ -7,7 +7,7 @@ use Rattle.dri_base.specs.declared.command.Command.TheVariants.{Clear, Die, Set,
 use Rattle.dri_base.specs.declared.scene.Scene.{Scene}
 use Rattle.dri_meaning.specs.Phases.{In, Old, Out, Phase, left_from, phase_after}
 use Rattle.dri_meaning.specs.Privates.{Private, is_bound_lost, placed_after, state_by, used_run}
-use Rattle.dri_meaning.specs.Scenes.{command_at, commands_of, window_of}
+use Rattle.dri_base.specs.Scenes.{command_at, commands_of, window_of}
 use Rattle.dri_meaning.specs.Solo.{drawn_by}
 use Rattle.dri_meaning.specs.Worlds.{World, clips_in}
 use Rattle.dri_model.specs.Stacks.{origin}
@@ -23,7 +23,7 @@ is_last s c i = not (nat_lt i (length (commands_of s c)))
 abbrev pub after_leave : Scene → ℕ → Private → Phase
 after_leave s c p = left_from p.phase (is_last s c (pred p.place))
 
--- what a command leaves of each plane: front
+-- front after a command: a swap copies back's colours in the client's copy of its clips
 abbrev pub front_after : World → (ℕ → ℕ → Bool) → Option Command → ℕ → ℕ → Rgb
 front_after w copy (Some Swap) x y = if copy x y then (w.back x y).colour else w.front x y
 front_after w copy (Some (Clear colour depth)) x y = w.front x y
@@ -33,17 +33,17 @@ front_after w copy (Some Yield) x y = w.front x y
 front_after w copy (Some Die) x y = w.front x y
 front_after w copy None x y = w.front x y
 
--- a pixel is drawn only in the copy
+-- a pixel, drawn where it is so
 abbrev pub only_where : Bool → (Pixel → Pixel) → Pixel → Pixel
 only_where true f under = f under
 only_where false f under = under
 
--- back: in the client's copy, by the card's registers and memory, the window's pixel being the screen's less the client's origin
+-- back after a command: drawn in the client's copy of its clips, by the card's registers and texture memory, at the pixel less the client's copy of the origin
 abbrev pub back_after : World → Private → Option Command → ℕ → ℕ → Pixel
 back_after w p command x y =
     only_where (p.copy x y) (drawn_by (rules_in w.registers) (card_image w.memory w.registers.bound) command (pos x -ℤ p.origin.0) (pos y -ℤ p.origin.1)) (w.back x y)
 
--- a triangle touches the run of the texture that it needs
+-- the regions after a command: a triangle touches the run of the texture that it needs
 abbrev pub heap_after : Heap → Option Run → Option Command → Heap
 heap_after h (Some run) (Some (Triangle t)) = touched run h
 heap_after h None (Some (Triangle t)) = h
@@ -54,7 +54,7 @@ heap_after h run (Some Yield) = h
 heap_after h run (Some Die) = h
 heap_after h run None = h
 
--- the local age is set to that of the touch; else it stays
+-- the client's local age after a command: that of the touch, where there is one
 abbrev pub local_after : ℕ → Heap → Option Run → Option Command → ℕ
 local_after local h (Some run) (Some (Triangle t)) = (touched run h).global
 local_after local h None (Some (Triangle t)) = local
@@ -65,11 +65,11 @@ local_after local h run (Some Yield) = local
 local_after local h run (Some Die) = local
 local_after local h run None = local
 
--- the run that a Place names
+-- so many neighbouring regions from a first one on
 abbrev pub run_at : ℕ → ℕ → Run
 run_at first count = record { first = first; count = count }
 
--- the client's part after the kernel took it in
+-- the client's part after the kernel let it in: all groups are dirty where another owned the card, and textures with a region that is newer than its local age are lost
 abbrev pub taken_in : Scene → World → ℕ → Private
 taken_in s w c = record (w.client c) {
   phase = if (w.client c).stamp == w.stamps (window_of s c) then In else Old;

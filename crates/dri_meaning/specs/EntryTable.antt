@@ -8,7 +8,7 @@ use Rattle.dri_meaning.specs.Effects.{after_leave, back_after, front_after, heap
 use Rattle.dri_meaning.specs.Phases.{Ask, Asking, Dead, In, Old, Out, Over, is_done, is_holding}
 use Rattle.dri_meaning.specs.Privates.{can_draw, can_run, is_ready, is_triangle, own_registers, textured_with, used_run}
 use Rattle.dri_meaning.specs.Restacks.{counter_after, front_painted, next_stack, stamps_after}
-use Rattle.dri_meaning.specs.Scenes.{bytes_of, command_at, is_named, regions_needed, textures_of}
+use Rattle.dri_base.specs.Scenes.{bytes_of, command_at, is_named, regions_needed, textures_of}
 use Rattle.dri_meaning.specs.Worlds.{World, put}
 use Rattle.dri_model.specs.Groups.{bits, is_empty, no_groups}
 use Rattle.dri_model.specs.Heaps.{allocated, is_place_for, uploaded}
@@ -20,7 +20,7 @@ use Rattle.dri_base.specs.declared.journal.Entry.TheVariants as Entry_is
 abbrev pub AtTriangle : Scene → World → ℕ → Type 0
 AtTriangle s w c = ((w.client c).phase ≡ In) × (is_triangle (command_at s c (w.client c).place) ≡ true)
 
--- the entry is allowed
+-- where an entry is legal
 abbrev pub LegalEntry : Scene → World → Entry → Type 0
 LegalEntry s w (Entry_is.Light c) = ((w.client c).phase ≡ Out) × (w.holder ≡ None) × (w.left ≡ c + 1)
 LegalEntry s w (Entry_is.Kernel c found) =
@@ -40,7 +40,7 @@ LegalEntry s w (Entry_is.Gone c) =
     (((w.client c).phase ≡ In) × (command_at s c (w.client c).place ≡ Some Die)) ⊎
     ((is_named s c ≡ true) × (is_done (w.client c).phase ≡ false) × ((is_holding (w.client c).phase ≡ true) ⊎ (w.holder ≡ None)))
 
--- the world after the entry
+-- the world after an entry
 abbrev pub after_entry : Scene → World → Entry → World
 after_entry s w (Entry_is.Light c) = record w { holder = Some c; client = put w.client c (record (w.client c) { phase = In }) }
 after_entry s w (Entry_is.Kernel c found) = record w { holder = Some c; owner = c + 1; client = put w.client c (taken_in s w c) }

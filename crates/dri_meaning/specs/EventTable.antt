@@ -8,11 +8,11 @@ use Rattle.dri_base.specs.declared.scene.Scene.{Scene}
 use Rattle.dri_meaning.specs.Cores.{Core, IsFirst, IsNext, can_take, Wants, Word, entry_of, is_queued, IsLive}
 use Rattle.dri_meaning.specs.EntryTable.{LegalEntry, after_entry}
 use Rattle.dri_meaning.specs.Phases.{Ask, Asking, In, Out, Over, is_done, is_holding}
-use Rattle.dri_meaning.specs.Scenes.{command_at, is_named}
+use Rattle.dri_base.specs.Scenes.{command_at, is_named}
 use Rattle.dri_meaning.specs.Worlds.{World}
 use Rattle.dri_base.specs.declared.journal.Entry.TheVariants as Entry_is
 
--- the event is legal
+-- where an event is legal
 abbrev pub LegalEvent : Scene → Core → Event → Type 0
 LegalEvent s k (Light c) = IsLive k c × ((k.world.client c).phase ≡ Out) × (k.word.held ≡ false) × (k.word.context ≡ c + 1)
 LegalEvent s k (Kernel c found) =

@@ -1,5 +1,6 @@
 -- Frames, which of them stood, and what they leave.
-use Rattle.std.specs.Prelude.{List, Some, [], pos, true, ℕ, ℤ, ◌++◌, ◌-ℤ◌, ◌∷◌, ◌≡◌, ◌≢◌}
+use Rattle.std.specs.List.{All}
+use Rattle.std.specs.Prelude.{AllPairs, Contains, length, List, Some, [], pos, true, ℕ, ℤ, ◌++◌, ◌-ℤ◌, ◌∷◌, ◌≡◌, ◌≢◌}
 use Rattle.dri_base.specs.Fragments.{fragment, rules_of}
 use Rattle.dri_base.specs.States.{state_at}
 use Rattle.dri_base.specs.declared.command.Command.TheVariants.{Triangle}
@@ -9,7 +10,7 @@ use Rattle.dri_base.specs.declared.scene.Scene.{Scene}
 use Rattle.dri_base.specs.declared.shape.Triangle.{Triangle as TriangleShape}
 use Rattle.dri_meaning.specs.EntryTable.{after_entry}
 use Rattle.dri_meaning.specs.Runs.{after, after_entries}
-use Rattle.dri_meaning.specs.Scenes.{command_at, commands_of, script_of, window_of}
+use Rattle.dri_base.specs.Scenes.{command_at, commands_of, script_of, window_of}
 use Rattle.dri_meaning.specs.Solo.{frame, image_at, is_swap, solo_frame}
 use Rattle.dri_meaning.specs.Worlds.{World, clips_in}
 use Rattle.dri_model.specs.Stacks.{origin}
@@ -18,6 +19,34 @@ use Rattle.dri_model.specs.Stacks.{origin}
 abbrev pub Stands : Scene → ℕ → World → List Entry → Type 0
 Stands s n w [] = Unit {0}
 Stands s n w (e ∷ es) = ((after_entry s w e).stamps n ≡ w.stamps n) × Stands s n (after_entry s w e) es
+
+-- frame k of client c ran: it begins with a clear, and its swap is among the entries
+pub record FrameRan (s : Scene) (journal : List Entry) (c k : ℕ) : Type 0 where
+  pub first : ℕ
+  pub last : ℕ
+  pub numbered : frame (commands_of s c) k ≡ Some (first, last)
+  pub past : List Entry
+  pub rest : List Entry
+  pub swapped : journal ≡ past ++ Run c last ∷ rest
+
+-- it stood: none of the entries between its last clear and its swap gave the client's window a new stamp
+pub record FrameStood (s : Scene) (journal : List Entry) (c k : ℕ) : Type 0 where
+  pub first : ℕ
+  pub last : ℕ
+  pub numbered : frame (commands_of s c) k ≡ Some (first, last)
+  pub past : List Entry
+  pub middle : List Entry
+  pub rest : List Entry
+  pub swapped : journal ≡ past ++ Run c first ∷ (middle ++ Run c last ∷ rest)
+  pub stands : Stands s (window_of s c) (after_entry s (after s past) (Run c first)) middle
+
+-- so many frames, each by its client and its number, have the property
+pub record Counts (Holds : ℕ → ℕ → Type 0) (n : ℕ) : Type 0 where
+  pub frames : List (ℕ × ℕ)
+  pub counted : length frames ≡ n
+  pub apart : AllPairs ◌≢◌ frames
+  pub listed : All (λ f. Holds f.0 f.1) frames
+  pub all : (c k : ℕ) → Holds c k → Contains frames (c, k)
 
 -- the entry is no swap of client c
 abbrev pub IsNoSwap : Scene → ℕ → Entry → Type 0

@@ -1,4 +1,3 @@
-pub mod Scenes
 pub mod Solo
 pub mod Phases
 pub mod Privates

@@ -8,7 +8,8 @@ use Rattle.dri_meaning.specs.CoreRuns.{after_events}
 use Rattle.dri_meaning.specs.EventTable.{after_event}
 use Rattle.dri_meaning.specs.Phases.{Phase, Out, Old, In, Over, Ask, Asking, Ended, Dead, is_done, wants_in}
 use Rattle.dri_meaning.specs.Privates.{is_ready}
-use Rattle.dri_meaning.specs.Scenes.{commands_of, window_of, client_numbers}
+use Rattle.dri_base.specs.Ranges.{client_numbers}
+use Rattle.dri_base.specs.Scenes.{commands_of, window_of}
 use Rattle.dri_meaning.specs.Turns.{turn, all_pass, round, turns_and_rounds}
 use Rattle.dri_meaning.specs.Worlds.{World}
 use Rattle.dri_model.specs.Groups.{is_empty}

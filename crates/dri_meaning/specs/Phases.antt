@@ -49,20 +49,20 @@ is_done Ask = false
 is_done Out = false
 is_done Asking = false
 
--- from ask it is asking; else out, or ended where no command is left
+-- the phase after a leave: from ask it is asking; else out, or ended where no command is left
 abbrev pub left_from : Phase → Bool → Phase
 left_from Ask last = Asking
 left_from _ true = Ended
 left_from _ false = Out
 
--- over after a swap, a yield or the last command
+-- the phase after a command: over after a swap, a yield or the last command
 abbrev pub phase_after : Option Command → Bool → Phase
 phase_after (Some Swap) last = Over
 phase_after (Some Yield) last = Over
 phase_after _ true = Over
 phase_after _ false = In
 
--- the actor wants a hold
+-- the client wants a hold
 abbrev pub wants_in : Phase → Bool
 wants_in Out = true
 wants_in Asking = true
@@ -73,7 +73,7 @@ wants_in Ask = false
 wants_in Ended = false
 wants_in Dead = false
 
--- the actor can take the word now
+-- the client may take the word, where it is unheld
 abbrev pub is_out : Phase → Bool
 is_out Out = true
 is_out Asking = false

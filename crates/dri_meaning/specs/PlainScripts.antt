@@ -1,5 +1,5 @@
 -- Scripts without settings: every triangle is drawn with the default state.
-use Rattle.std.specs.Prelude.{◌≤ℤ◌, ℤ, pos, Option, Some, None}
+use Rattle.std.specs.Prelude.{◌≤ℤ◌, ℤ, pos, Option, None}
 use Rattle.dri_base.specs.declared.command.Command.{Command}
 use Rattle.dri_base.specs.declared.command.Command.TheVariants.{Set, Clear, Triangle, Swap, Yield, Die}
 use Rattle.dri_base.specs.declared.colour.Pixel.{Pixel}

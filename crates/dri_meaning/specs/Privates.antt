@@ -11,7 +11,7 @@ use Rattle.dri_base.specs.declared.state.TexMode.{TexMode}
 use Rattle.dri_base.specs.declared.texture.BoundTexture.{BoundTexture}
 use Rattle.dri_base.specs.declared.texture.Texture.{Texture}
 use Rattle.dri_meaning.specs.Phases.{Phase, first_phase}
-use Rattle.dri_meaning.specs.Scenes.{textures_of}
+use Rattle.dri_base.specs.Scenes.{textures_of}
 use Rattle.dri_model.specs.Groups.{Groups, all_groups, is_empty}
 use Rattle.dri_model.specs.Heaps.{Run, any_in, lose}
 use Rattle.dri_model.specs.Words.{registers_for}
@@ -19,18 +19,22 @@ use Rattle.dri_base.specs.declared.state.TexMode.TheVariants as Mode_is
 
 -- what one client keeps
 pub record Private : Type 0 where
-  -- its next command
+  -- its next command, counted from 1
   pub place : ℕ
   pub phase : Phase
+  -- its window's stamp, as it was told
   pub stamp : ℕ
-  -- its copy of the clips, and of the origin
+  -- its copy of its window's clips, by column and row of the screen
   pub copy : ℕ → ℕ → Bool
+  -- its copy of its window's origin
   pub origin : ℤ × ℤ
-  -- its own state, and the groups that the card may not have
+  -- its own drawing state
   pub state : State
+  -- the groups that the card may not have as the client wants them
   pub dirty : Groups
-  -- the runs of its placed textures, by number, and the age up to which it knows them
+  -- the runs of its placed textures, by number
   pub placed : ℕ → Option Run
+  -- the age up to which it knows the regions
   pub local : ℕ
 
 -- a client's part at the opening
@@ -118,15 +122,15 @@ abbrev pub state_by : Option Command → State → State
 state_by None old = old
 state_by (Some command) old = state_after command old
 
--- the bound texture has a region with the property, so it is lost
+-- a placed texture with a region that has the property is lost
 abbrev pub loses : (ℕ → Bool) → Option Run → Bool
 loses f None = false
 loses f (Some run) = any_in run f
 
--- by the runs that the client has placed
+-- the client's bound texture is lost, where regions with the property go
 abbrev pub is_bound_lost : Private → (ℕ → Bool) → Bool
 is_bound_lost p f = loses f (run_of p.placed p.state.bound)
 
--- what is placed after texture t is put in the run, and the textures of freed regions are lost
+-- the placed textures after texture t is put in the run, where the textures of freed regions are lost
 abbrev pub placed_after : (ℕ → Option Run) → (ℕ → Bool) → ℕ → Run → ℕ → Option Run
 placed_after placed freed t run u = if u == t then Some run else lose freed (placed u)

@@ -8,7 +8,7 @@ use Rattle.dri_base.specs.declared.scene.Scene.{Scene}
 use Rattle.dri_meaning.specs.EntryTable.{after_entry}
 use Rattle.dri_meaning.specs.Phases.{is_done}
 use Rattle.dri_meaning.specs.Runs.{after}
-use Rattle.dri_meaning.specs.Scenes.{command_at, window_of}
+use Rattle.dri_base.specs.Scenes.{command_at, window_of}
 use Rattle.dri_meaning.specs.Worlds.{World, opening}
 use Rattle.dri_base.specs.declared.journal.Entry.TheVariants as Entry_is
 

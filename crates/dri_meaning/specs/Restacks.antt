@@ -13,19 +13,19 @@ abbrev pub change_stack : List Window → Option Change → List Window
 change_stack ws None = ws
 change_stack ws (Some change) = stack_after change ws
 
--- what a new stack gives: the windows that it touches, the new stamps, the counter, and front painted where the topmost window changed
+-- a new stack touches the window: its clips or its origin differ afterwards
 abbrev pub touched_by : Scene → World → List Window → ℕ → Bool
 touched_by s w new = is_touched s.width s.height w.stack new
 
--- each touched window's stamp is the counter and its number among the touched ones, in rising window number
+-- the stamps after a new stack: in rising window number, each touched window gets one above the counter before
 abbrev pub stamps_after : Scene → World → List Window → ℕ → ℕ
 stamps_after s w new n = if touched_by s w new n then w.counter + how_many (touched_by s w new) (n + 1) else w.stamps n
 
--- the counter rises by the number of touched windows
+-- the counter after a new stack: it rises by the number of touched windows
 abbrev pub counter_after : Scene → World → List Window → ℕ
 counter_after s w new = w.counter + how_many (touched_by s w new) 65
 
--- front shows the new topmost window's background, or the root colour, where the topmost window changed
+-- front after a new stack: the new topmost window's background, or the root colour, where the topmost window changed
 abbrev pub front_painted : Scene → World → List Window → ℕ → ℕ → Rgb
 front_painted s w new x y = if same_top (top w.stack x y) (top new x y) then w.front x y else ground_colour s.root (top new x y)
 

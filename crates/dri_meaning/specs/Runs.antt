@@ -8,7 +8,7 @@ use Rattle.dri_base.specs.declared.state.Registers.{Registers}
 use Rattle.dri_meaning.specs.EntryTable.{LegalEntry, after_entry}
 use Rattle.dri_meaning.specs.Phases.{Asking, In, Out, Over, is_done}
 use Rattle.dri_meaning.specs.Privates.{own_registers}
-use Rattle.dri_meaning.specs.Scenes.{bytes_of, textures_of, window_of}
+use Rattle.dri_base.specs.Scenes.{bytes_of, textures_of, window_of}
 use Rattle.dri_meaning.specs.Worlds.{World, clips_in, opening}
 use Rattle.dri_model.specs.Groups.{Groups}
 use Rattle.dri_model.specs.Heaps.{Heap, in_run}

@@ -6,7 +6,7 @@ use Rattle.dri_base.specs.declared.scene.Scene.{Scene}
 use Rattle.dri_meaning.specs.CoreRuns.{after_events}
 use Rattle.dri_meaning.specs.Cores.{Core, opening_core}
 use Rattle.dri_meaning.specs.EventTable.{LegalEvent, after_event}
-use Rattle.dri_meaning.specs.Scenes.{command_at}
+use Rattle.dri_base.specs.Scenes.{command_at}
 use Rattle.dri_meaning.specs.Turns.{turn}
 use Rattle.dri_base.specs.declared.command.Command.TheVariants as Command_is
 use Rattle.dri_meaning.specs.Phases as Phase_is
@@ -28,11 +28,11 @@ actor_of (Change i) = 0
 actor_of (Stop c) = c
 actor_of (Gone c) = c
 
--- a death that isn't a kill's own: the client is stopped, or its next command is die
+-- a death that a turn makes: the client is dying, or its next command is die
 abbrev pub DiesByTurn : Scene → Core → ℕ → Type 0
 DiesByTurn s k c = (k.dying c ≡ true) ⊎ (((k.world.client c).phase ≡ Phase_is.In) × (command_at s c (k.world.client c).place ≡ Some Command_is.Die))
 
--- kills aside
+-- the event can come by a turn, kills aside
 abbrev pub ByTurn : Scene → Core → Event → Type 0
 ByTurn s k (Stop c) = ⊥
 ByTurn s k (Gone c) = DiesByTurn s k c
@@ -49,11 +49,11 @@ ByTurn s k (LeaveKernel c) = Unit {0}
 ByTurn s k (Info c) = Unit {0}
 ByTurn s k (Change i) = Unit {0}
 
--- kills aside, an actor's turn makes its one possible event
+-- kills aside, an actor's turn makes its one legal event
 abbrev pub OneEvent : Scene → Core → Type 0
 OneEvent s k = (e : Event) → LegalEvent s k e → ByTurn s k e → turn s k (actor_of e) ≡ Some e
 
--- what a turn makes is possible
+-- what a turn makes is legal
 abbrev pub TurnsAreLegal : Scene → Core → Type 0
 TurnsAreLegal s k = (a : ℕ) (e : Event) → turn s k a ≡ Some e → LegalEvent s k e
 
@@ -79,7 +79,7 @@ abbrev pub NoTake : Scene → Core → List Event → Type 0
 NoTake s k [] = Unit {0}
 NoTake s k (e ∷ es) = ((k.word.held ≡ true) ⊎ (is_take e ≡ false)) × NoTake s (after_event s k e) es
 
--- between a mark and the next event that takes the unheld word no light lock is possible
+-- between a mark and the next event that takes the unheld word no light lock is legal
 abbrev pub NoLightAfterMark : Scene → List Event → Type 0
 NoLightAfterMark s events =
     (past more : List Event) (a c : ℕ) → events ≡ past ++ Mark a ∷ more → NoTake s (after_event s (after_events s (opening_core s) past) (Mark a)) more →

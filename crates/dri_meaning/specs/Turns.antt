@@ -11,7 +11,7 @@ use Rattle.dri_meaning.specs.Cores.{Core, is_first, is_next, is_queued, opening_
 use Rattle.dri_meaning.specs.EventTable.{after_event}
 use Rattle.dri_meaning.specs.Phases.{Phase, is_done, is_holding}
 use Rattle.dri_meaning.specs.Privates.{Private, textured_with}
-use Rattle.dri_meaning.specs.Scenes.{command_at, regions_needed}
+use Rattle.dri_base.specs.Scenes.{command_at, regions_needed}
 use Rattle.dri_meaning.specs.Worlds.{World}
 use Rattle.dri_model.specs.Groups.{bits, is_empty}
 use Rattle.dri_model.specs.Heaps.{classes_for, lowest_place}
@@ -66,7 +66,7 @@ turn_in s k c Phase_is.Dead = None
 abbrev pub turn_of : Scene → Core → ℕ → Option Event
 turn_of s k c = if k.dying c then or_waiting k c (Gone c) else turn_in s k c (k.world.client c).phase
 
--- the server's
+-- the one event that the server makes at its turn
 abbrev pub server_turn : Scene → Core → Option Event
 server_turn s k = if nat_lt k.world.made (length s.changes) then or_waiting k 0 (Change (k.world.made + 1)) else None
 
@@ -119,7 +119,7 @@ all_pass s k (item ∷ items) = is_none (item_event s k item) && all_pass s k it
 abbrev pub turns_and_rounds : Scene → ℕ → List Event
 turns_and_rounds s n = played s (opening_core s) (s.turns ++ rounds s n)
 
--- the run that takes the schedule's items in order and then rounds until all have ended
+-- the run that takes the schedule's items in order and then rounds, until every turn would be passed over
 pub record IsTurns (s : Scene) (events : List Event) : Type 0 where
   pub rounds : ℕ
   pub made : events ≡ turns_and_rounds s rounds

@@ -7,36 +7,42 @@ use Rattle.dri_base.specs.declared.scene.Scene.{Scene}
 use Rattle.dri_base.specs.declared.scene.Window.{Window}
 use Rattle.dri_base.specs.declared.state.Registers.{Registers}
 use Rattle.dri_meaning.specs.Privates.{Private, opening_part}
-use Rattle.dri_meaning.specs.Scenes.{commands_of, window_of}
+use Rattle.dri_base.specs.Scenes.{commands_of, window_of}
 use Rattle.dri_meaning.specs.Solo.{blank}
 use Rattle.dri_model.specs.Heaps.{Heap}
 use Rattle.dri_model.specs.Stacks.{clips, ground_colour, top}
 use Rattle.dri_model.specs.Words.{registers_for}
 
--- the world, but for word, queue and who is dying
+-- what the actors share and keep
 pub record World : Type 0 where
-  -- the client that holds
+  -- the client that holds, if one does
   pub holder : Option ℕ
   -- the context that the last hold left
   pub left : ℕ
   -- the context that last took the card over
   pub owner : ℕ
+  -- the regions of texture memory, with their ages
   pub heap : Heap
+  -- from top to bottom
   pub stack : List Window
-  -- by window number
+  -- the shared stamps, by window number
   pub stamps : ℕ → ℕ
+  -- the last stamp that was given
   pub counter : ℕ
   -- the number of changes made
   pub made : ℕ
-  -- by client number
+  -- the private parts, by client number
   pub client : ℕ → Private
-  -- the card: registers, texture memory by byte, and at each pixel of the screen front's colour, and back's colour and depth
+  -- the card's registers
   pub registers : Registers
+  -- the card's texture memory, by byte
   pub memory : ℕ → ℕ
+  -- what is shown, by column and row of the screen
   pub front : ℕ → ℕ → Rgb
+  -- what is drawn, with its depth
   pub back : ℕ → ℕ → Pixel
 
--- client c has this part, all others theirs
+-- the private parts, with this one for client c
 abbrev pub put : (ℕ → Private) → ℕ → Private → ℕ → Private
 put f c p k = if k == c then p else f k
 

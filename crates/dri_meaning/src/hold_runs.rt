@@ -1,14 +1,16 @@
 //! The laws of hold-runs: the journals that the table of entries allows.
 
-ghost use Rattle.std.specs.Prelude.{◌≡◌, ◌≢◌, ◌++◌, ℕ, List, true, Some, Contains};
+ghost use Rattle.std.specs.Prelude.{◌≡◌, ◌≢◌, ◌≤◌, ◌+◌, length, ◌++◌, ℕ, List, true, Some, Contains};
 ghost use Rattle.std.specs.List.{All};
 ghost use Rattle.dri_base.specs.declared.command.Command.{Command};
 ghost use Rattle.dri_base.specs.declared.journal.Entry.{Entry};
 ghost use Rattle.dri_base.specs.declared.scene.Scene.{Scene};
 ghost use Rattle.dri_meaning.specs.Decide.{is_hold_run};
-ghost use Rattle.dri_meaning.specs.Frames.{Own, SoloLeft};
-ghost use Rattle.dri_meaning.specs.Runs.{after, HoldRun, Confined, LightIsCurrent, ActingIsCurrent, OwnerIsClean, Intact, BeginsWith, since, client_of};
-ghost use Rattle.dri_meaning.specs.Scenes.{InRange, client_numbers};
+ghost use Rattle.dri_meaning.specs.Frames.{Own, SoloLeft, FrameRan, FrameStood, Counts};
+ghost use Rattle.dri_meaning.specs.Reports.{tally, is_whole};
+ghost use Rattle.dri_meaning.specs.Runs.{Whole, after, HoldRun, Confined, LightIsCurrent, ActingIsCurrent, OwnerIsClean, Intact, BeginsWith, since, client_of};
+ghost use Rattle.dri_base.specs.Ranges.{InRange, client_numbers};
+ghost use Rattle.dri_base.specs.Scenes.{commands_of};
 ghost use Rattle.dri_meaning.specs.Solo.{frame, IsFrame};
 
 use dri_base::{Entries, Scene};
@@ -61,4 +63,21 @@ pub fn decided()
 pub fn frames()
     ensures found { (commands : List Command) (k first last : ℕ) → frame commands k ≡ Some (first, last) → IsFrame commands k first last }
     ensures there { (commands : List Command) (k first last : ℕ) → IsFrame commands k first last → frame commands k ≡ Some (first, last) }
+{}
+
+/// The check counts exactly the frames that ran and those that stood, and tells exactly which hold-runs are whole.
+pub fn counted()
+    ensures frames { (s : Scene) (journal : List Entry) → HoldRun s journal → Counts (FrameRan s journal) (tally s journal).frames }
+    ensures stood { (s : Scene) (journal : List Entry) → HoldRun s journal → Counts (FrameStood s journal) (tally s journal).stood }
+    ensures whole { (s : Scene) (journal : List Entry) → InRange s → HoldRun s journal → is_whole s journal ≡ true → Whole s journal }
+    ensures not_whole { (s : Scene) (journal : List Entry) → Whole s journal → is_whole s journal ≡ true }
+{}
+
+/// How high counts can rise over a hold-run: the global age to 300,000, the stamps to 268,321, a client's place to one
+/// behind its last command, and the number of changes made to that of all changes.
+pub fn bounded()
+    ensures age { (s : Scene) (journal : List Entry) → InRange s → HoldRun s journal → (after s journal).heap.global ≤ 300000 }
+    ensures stamps { (s : Scene) (journal : List Entry) → InRange s → HoldRun s journal → (after s journal).counter ≤ 268321 }
+    ensures places { (s : Scene) (journal : List Entry) → InRange s → HoldRun s journal → (c : ℕ) → ((after s journal).client c).place ≤ length (commands_of s c) + 1 }
+    ensures made { (s : Scene) (journal : List Entry) → InRange s → HoldRun s journal → (after s journal).made ≤ length s.changes }
 {}

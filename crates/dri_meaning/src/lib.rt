@@ -5,10 +5,14 @@
 mod core_runs;
 mod hold_runs;
 mod solo;
+#[cfg(test)]
+mod tests;
 mod worked;
 
-pub use core_runs::{core, turns, whole_where_passed};
-pub use hold_runs::{central, confined, decided, foreign, frames, own, solo_left};
+pub use core_runs::{core, rounds_end, turns};
+pub use hold_runs::{
+    bounded, central, confined, counted, decided, foreign, frames, own, solo_left,
+};
 pub use solo::solo_pixel;
 pub use worked::{
     a_scissor, a_triangle, changed_beside, covered_and_uncovered, covered_whole, death,

@@ -7,7 +7,8 @@ ghost use Rattle.dri_meaning.specs.Cores.{journal_of};
 ghost use Rattle.dri_meaning.specs.ExampleScenes.{one_triangle, two_frames, under_another, killed_first, dies, covered, beside, waiting_one, killed, one_region, cut_out, blended_twice};
 ghost use Rattle.dri_meaning.specs.ExampleRuns.{picture, summary, word_after_all, red, green, blue, grey, one_triangle_journal, two_frames_journal, dies_journal, covered_journal, beside_journal, waiting_one_journal, killed_journal, one_region_journal, cut_out_journal, blended_twice_journal};
 ghost use Rattle.dri_meaning.specs.Runs.{after, HoldRun};
-ghost use Rattle.dri_meaning.specs.Scenes.{script_of, InRange};
+ghost use Rattle.dri_base.specs.Ranges.{InRange};
+ghost use Rattle.dri_base.specs.Scenes.{script_of};
 ghost use Rattle.dri_meaning.specs.Solo.{solo_frame};
 ghost use Rattle.dri_meaning.specs.Turns.{turns_and_rounds};
 
@@ -23,6 +24,7 @@ pub fn a_triangle()
 
 /// Two frames by one client, whose second hold is light. Its first eight entries aren't whole.
 pub fn two_holds()
+    ensures in_range { InRange two_frames }
     ensures journal { journal_of (turns_and_rounds two_frames 16) ≡ two_frames_journal }
     ensures run { HoldRun two_frames two_frames_journal }
     ensures picture { picture two_frames two_frames_journal ≡ (blue ∷ blue ∷ []) ∷ [] }
@@ -88,6 +90,7 @@ pub fn killed_in_a_hold()
 
 /// Two clients whose textures take each other's only region; the ages show it.
 pub fn two_textures()
+    ensures in_range { InRange one_region }
     ensures journal { journal_of (turns_and_rounds one_region 14) ≡ one_region_journal }
     ensures run { HoldRun one_region one_region_journal }
     ensures ages { ((after one_region (take 13 one_region_journal)).heap.global ≡ 2) × ((after one_region (take 26 one_region_journal)).heap.global ≡ 5) × ((after one_region one_region_journal).heap.global ≡ 8) }

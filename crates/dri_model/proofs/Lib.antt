@@ -4,3 +4,4 @@ pub mod Touches
 pub mod Rooms
 pub mod Spelling
 pub mod Faults
+pub mod Buffers

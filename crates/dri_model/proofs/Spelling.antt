@@ -125,16 +125,16 @@ scissor_one (Some a) (Some b) r t e = λ k. Some (record { x1 = x1 k; y1 = y1 k;
     second = head_same _ _ _ _ h.1
 
     x1 : a.x1 ≡ b.x1
-    x1 = omega (arith, h.0, r.0.0, t.0.0)
+    x1 = omega (arith, h.0, r.left, t.left)
 
     y1 : a.y1 ≡ b.y1
-    y1 = omega (arith, h.0, r.0.0, t.0.0)
+    y1 = omega (arith, h.0, r.left, t.left)
 
     x2 : a.x2 ≡ b.x2
-    x2 = omega (arith, second, r.1.0, t.1.0)
+    x2 = omega (arith, second, r.right, t.right)
 
     y2 : a.y2 ≡ b.y2
-    y2 = omega (arith, second, r.1.0, t.1.0)
+    y2 = omega (arith, second, r.right, t.right)
 
 choose_same : {A : Type 0} (b d : Bool) (x y o : A) → b ≡ d → (b ≡ true → x ≡ y) → (if b then x else o) ≡ (if d then y else o)
 choose_same true true x y o e h = h refl

@@ -1,9 +1,10 @@
 -- The words of command buffers: a row of triangles of thirteen words each.
-use Rattle.std.specs.Prelude.{◌≡◌, ◌≤◌, ℕ, ◌+◌, ◌*◌, List, [], ◌∷◌, ◌++◌, if◌then◌else◌, true, ℤ, pos, neg_ℤ, ◌+ℤ◌, int_lt, int_le, nat_abs}
+use Rattle.std.specs.Prelude.{◌≡◌, ◌≤◌, ℕ, ◌+◌, ◌*◌, List, [], ◌∷◌, ◌++◌, if◌then◌else◌, ℤ, pos, ◌+ℤ◌, int_lt, nat_abs}
 use Rattle.std.specs.List.{All}
 use Rattle.dri_base.specs.declared.colour.Rgba.{Rgba}
 use Rattle.dri_base.specs.declared.shape.Triangle.{Triangle}
 use Rattle.dri_base.specs.declared.shape.Vertex.{Vertex}
+use Rattle.dri_base.specs.Ranges.{VertexInRange}
 use Rattle.dri_model.specs.Words.{halves}
 
 -- the low sixteen bits of a coordinate in two's complement
@@ -27,11 +28,6 @@ abbrev pub buffer_words : List Triangle → List ℕ
 buffer_words [] = []
 buffer_words (t ∷ ts) = triangle_words t ++ buffer_words ts
 
--- a coordinate in sixteenths of a pixel is -32,768 to 32,767
-pub record IsCoordinate (v : ℤ) : Type 0 where
-  pub least : int_le (neg_ℤ (pos 32768)) v ≡ true
-  pub most : int_le v (pos 32767) ≡ true
-
 -- each channel is a byte
 pub record IsColour (c : Rgba) : Type 0 where
   pub r : c.r ≤ 255
@@ -41,8 +37,7 @@ pub record IsColour (c : Rgba) : Type 0 where
 
 -- a vertex that a buffer can hold
 pub record IsVertex (v : Vertex) : Type 0 where
-  pub x : IsCoordinate v.x
-  pub y : IsCoordinate v.y
+  pub place : VertexInRange v
   pub z : v.z ≤ 65535
   pub colour : IsColour v.colour
   pub s : v.s ≤ 65535

@@ -1,5 +1,5 @@
 -- Register words, and the registers that they leave.
-use Rattle.std.specs.Prelude.{◌≡◌, ◌≤◌, ℕ, ◌+◌, ◌*◌, List, [], ◌∷◌, ◌++◌, Bool, true, false, if◌then◌else◌, Option, Some, None}
+use Rattle.std.specs.Prelude.{◌≡◌, ℕ, ◌+◌, ◌*◌, List, [], ◌∷◌, ◌++◌, Bool, true, false, if◌then◌else◌, Option, Some, None}
 use Rattle.dri_base.specs.declared.state.Registers.{Registers}
 use Rattle.dri_base.specs.declared.texture.BoundTexture.{BoundTexture}
 use Rattle.dri_base.specs.declared.shape.ClipRect.{ClipRect}
@@ -8,6 +8,7 @@ use Rattle.dri_base.specs.declared.texture.TexFormat.TheVariants.{L8, Rgb565}
 use Rattle.dri_base.specs.declared.state.State.{State}
 use Rattle.dri_model.specs.Groups.{Groups, shade_word, depth_word, flag_word, blend_word, mode_word, wrap_word}
 use Rattle.dri_base.specs.Fragments.{Rules}
+use Rattle.dri_base.specs.Ranges.{IsWithin, ScissorInRange}
 use Rattle.dri_base.specs.Texels.{Image}
 
 -- the registers of a state, with the bound texture where it is placed
@@ -95,12 +96,12 @@ emitted_words g s bound = register_words g (registers_for s bound)
 -- the sides of a bound image are 1 to 256
 abbrev pub IsBoundInRange : Option BoundTexture → Type 0
 IsBoundInRange None = Unit {0}
-IsBoundInRange (Some b) = ((1 ≤ b.shape.width) × (b.shape.width ≤ 256)) × ((1 ≤ b.shape.height) × (b.shape.height ≤ 256))
+IsBoundInRange (Some b) = IsWithin 1 256 b.shape.width × IsWithin 1 256 b.shape.height
 
 -- each half of a scissor is at most 2,048
 abbrev pub IsScissorInRange : Option ClipRect → Type 0
 IsScissorInRange None = Unit {0}
-IsScissorInRange (Some r) = ((r.x1 ≤ 2048) × (r.y1 ≤ 2048)) × ((r.x2 ≤ 2048) × (r.y2 ≤ 2048))
+IsScissorInRange (Some r) = ScissorInRange r
 
 -- words that the card takes: they spell some groups of some registers in range, which are then loaded
 pub record Spelled (words : List ℕ) : Type 0 where

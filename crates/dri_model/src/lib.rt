@@ -2,6 +2,9 @@
 //! and the command words. The functions here do nothing; their contracts are what holds of the definitions.
 #![tactic(auto)]
 
+#[cfg(test)]
+mod tests;
+
 ghost use Rattle.std.specs.Prelude.{◌≡◌, ◌<◌, ◌≤◌, ℕ, List, [], ◌∷◌, true, false};
 ghost use Rattle.dri_base.specs.declared.state.Registers.{Registers};
 ghost use Rattle.dri_model.specs.Heaps.{Heap, is_place_for, lowest_place, classes_for, allocated, touched};
@@ -15,9 +18,11 @@ pub fn always_room()
     ensures { (n : ℕ) (h : Heap) (count : ℕ) → 0 < n → count ≤ n → is_place_for n h count (lowest_place n h count (classes_for n h count)) ≡ true }
 {}
 
-/// Words that the card takes leave the same registers, whatever they are read as.
+/// Register words that the card takes leave the same registers, whatever they are read as; and command words are one
+/// list of triangles.
 pub fn spelled()
-    ensures { (words : List ℕ) (a b : Spelled words) (old : Registers) → loaded a.groups a.registers old ≡ loaded b.groups b.registers old }
+    ensures triangles { (words : List ℕ) (a b : Buffer words) → a.triangles ≡ b.triangles }
+    ensures registers { (words : List ℕ) (a b : Spelled words) (old : Registers) → loaded a.groups a.registers old ≡ loaded b.groups b.registers old }
 {}
 
 /// A list of register words or command words goes wrong at one place and one word at most, and nowhere where the card

@@ -1,5 +1,5 @@
-use Rattle.dri_meaning.proofs.Draws.{own_run}
+use Rattle.dri_meaning.proofs.RunLaws as RunLaws
 use Rattle.dri_meaning.proofs.hold_runs.own.Goals as goal
 
 pub returns : goal.returns
-returns c = own_run
+returns c = RunLaws.own

@@ -1,5 +1,5 @@
 -- The command draws in the default state.
-use Rattle.std.proofs.Common.{◌≡◌, ◌-◌, pred, w32, to_z, of_z, Some, subst, rules, arith}
+use Rattle.std.proofs.Common.{◌≡◌, ◌-◌, w32, to_z, of_z, Some, subst, arith}
 use Rattle.std.proofs.lemmas.Int.{to_z-of_z}
 use Rattle.dri_meaning.specs.PlainScripts.{drawn_plainly}
 use Rattle.dri_meaning.proofs.PlainDraws.{drawn_here}

@@ -1,5 +1,5 @@
 -- A flat triangle leaves its colour where it covers.
-use Rattle.std.proofs.Common.{◌≡◌, ◌∙◌, Bool, true, false, sym, refl, rules}
+use Rattle.std.proofs.Common.{◌≡◌, true, false, refl, rules}
 use Rattle.dri_base.specs.Coverage.{covers}
 use Rattle.dri_meaning.proofs.PlainDraws.{flat_fragment}
 use Rattle.dri_meaning.proofs.solo.flat.Goals as goal
