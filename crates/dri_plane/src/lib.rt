@@ -3,6 +3,7 @@
 #![tactic(auto)]
 
 mod counting;
+mod moving;
 mod plane;
 mod rows;
 

@@ -1,10 +1,12 @@
 //! A plane is a vector of pixels, row by row, with its two sides: the pixel in column x and row y stands at
 //! `y * width + x`.
 
-ghost use Rattle.std.specs.Prelude.{◌≡◌, ◌+◌, ◌<◌, ◌≤◌, ◌*◌, ℕ, length, if◌then◌else◌, Some, IfOk};
+ghost use Rattle.std.specs.Prelude.{◌≡◌, ◌+◌, ◌<◌, ◌≤◌, ◌*◌, ℕ, length, if◌then◌else◌, Some, IfOk, OnOk, OnErr, All};
 ghost use Rattle.dri_base.specs.Planes.{plane, at};
+ghost use Rattle.dri_plane.specs.Moves.{moved, areas, StaysInside};
 ghost use Rattle.dri_plane.specs.Grids.{is_place, in_rect, area, IsInside, Becomes};
 
+use crate::moving::{read_rects, total, write_rects};
 use crate::rows::{copy_rows, fill_rows};
 use dri_base::{ClipRect, OutOfMemory, Steps};
 use std::alloc::Global;
@@ -140,5 +142,46 @@ impl<T: Copy> Plane<T> {
             rect,
             steps,
         );
+    }
+
+    /// Moves the pixels of some rectangles by (dx, dy): each pixel of them is read before any is written. It takes two
+    /// steps a pixel: one reads, and one writes. The rectangles are disjoint, and they lie within the plane before and
+    /// after. Where memory is refused the plane and the steps are as before.
+    pub fn move_within<L: Ledger>(
+        &mut self,
+        alloc: Global,
+        rects: &[ClipRect],
+        dx: i32,
+        dy: i32,
+        steps: &mut Steps<L>,
+    ) -> Result<(), OutOfMemory>
+        requires stay { All (StaysInside dx dy self.old.width self.old.height) rects.now }
+        ensures width { self.new.width ≡ self.old.width }
+        ensures height { self.new.height ≡ self.old.height }
+        ensures pixels { OnOk result (Becomes self.old self.new (moved rects.now dx dy)) }
+        ensures cost { OnOk result (steps.new ≡ steps.old + 2 * areas rects.now) }
+        ensures err { OnErr result ((self.new ≡ self.old) × (steps.new ≡ steps.old)) }
+    {
+        let mut pieces = Vec::with_capacity(alloc, total(rects))?;
+        let (width, height) = (self.width as usize, self.height as usize);
+        read_rects(
+            self.pixels.as_slice(),
+            width,
+            height,
+            rects,
+            &mut pieces,
+            steps,
+        );
+        write_rects(
+            self.pixels.as_mut_slice(),
+            width,
+            height,
+            rects,
+            dx,
+            dy,
+            pieces.as_slice(),
+            steps,
+        );
+        Ok(())
     }
 }
