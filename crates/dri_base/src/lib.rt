@@ -13,6 +13,8 @@ mod sequence;
 mod shape;
 mod state;
 mod steps;
+#[cfg(test)]
+mod tests;
 mod texture;
 
 pub use colour::{Pixel, Rgb, Rgba};
@@ -21,7 +23,7 @@ pub use journal::{Entries, Entry, Event, Events};
 pub use memory::OutOfMemory;
 pub use scene::{ClientScript, Clients, Scene, Window, Windows};
 pub use sequence::{Bytes, Numbers, Sequence};
-pub use shape::{ClipRect, Point, Rect, Triangle, Vertex};
+pub use shape::{ClipRect, Point, Rect, Triangle, Vertex, quantity_is_floor};
 pub use state::{Blend, DepthFunc, Registers, Setting, Shade, State, TexMode, Wrap};
 pub use steps::Steps;
 pub use texture::{BoundTexture, TexFormat, TexRegion, TexShape, Texture, Textures};

@@ -15,16 +15,18 @@ impl NumberSet {
     pub fn empty() -> NumberSet
         ensures { AreMarksOf result.marks [] }
     {
-        NumberSet {
-            marks: [false; 65],
-        }
+        NumberSet { marks: [false; 65] }
     }
 
     /// Whether the number is in the set.
     pub fn contains(&self, n: u32) -> bool
         ensures { result ≡ slice_index_or self.now.marks n false }
     {
-        if n < 65 { self.marks[n as usize] } else { false }
+        if n < 65 {
+            self.marks[n as usize]
+        } else {
+            false
+        }
     }
 
     /// Puts a number in.

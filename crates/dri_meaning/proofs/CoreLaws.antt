@@ -9,7 +9,8 @@ use Rattle.dri_meaning.specs.Scenes.{InRange, window_of, command_at}
 use Rattle.dri_meaning.specs.Worlds.{World, clips_in}
 use Rattle.dri_meaning.specs.EntryTable.{after_entry}
 use Rattle.dri_meaning.specs.Runs.{after, after_entries, SameOutside}
-use Rattle.dri_meaning.specs.Frames.{Shows, Stands, NoSwap, OwnAt, is_swap}
+use Rattle.dri_meaning.specs.Frames.{Shows, Stands, NoSwap, OwnAt}
+use Rattle.dri_meaning.specs.Solo.{is_swap}
 use Rattle.dri_meaning.specs.Cores.{Core, opening_core, journal_of, entry_of, with_entry}
 use Rattle.dri_meaning.specs.EventTable.{after_event, world_after}
 use Rattle.dri_meaning.specs.CoreRuns.{after_events, IsRun}

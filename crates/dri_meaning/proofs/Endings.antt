@@ -22,6 +22,7 @@ use Rattle.dri_meaning.specs.Phases.{first_phase, is_holding, is_done, phase_aft
 use Rattle.dri_meaning.specs.Effects.{is_last, run_by, placed_by, taken_in}
 use Rattle.dri_meaning.specs.Runs.{IsWholeWorld, Whole, LegalEntries, after_entries, after, HoldRun}
 use Rattle.dri_meaning.specs.Cores.{Core, opening_core, journal_of, is_next, is_queued}
+use Rattle.dri_meaning.specs.EventTable.{world_after}
 use Rattle.dri_meaning.specs.CoreRuns.{after_events, IsRun}
 use Rattle.dri_meaning.specs.Phases.{wants_in}
 use Rattle.dri_meaning.specs.Turns.{turn, turn_of, turn_in, acting_turn, triangle_turn, emit_turn, or_waiting, server_turn, all_pass, round}
@@ -30,7 +31,7 @@ use Rattle.dri_model.specs.Heaps as Heaps
 use Rattle.dri_model.specs.Heaps.{lowest_place, classes_for}
 use Rattle.dri_meaning.proofs.Invariant.{put_keeps}
 use Rattle.dri_meaning.proofs.Textures.{Sound, sound_kept, sound_opened}
-use Rattle.dri_meaning.proofs.Cores.{journal_after, journal_is_hold_run}
+use Rattle.dri_meaning.proofs.Cores.{IsLegal, journal_after, journal_is_hold_run}
 use Rattle.dri_meaning.proofs.OneTurn.{Known, known_after}
 
 -- the client still has a command to run
@@ -64,7 +65,7 @@ first_more : (cs : List Command) → has_more (first_phase cs) ≡ true → 1 �
 first_more [] e = absurd (true≢false (sym e))
 first_more (c ∷ cs) e = omega arith
 
-lively_opened : (s : Scene) → Lively s (opening s)
+pub lively_opened : (s : Scene) → Lively s (opening s)
 lively_opened s = record { held = λ c h. absurd (grind arith); more = λ c. first_more (commands_of s c); empty = λ c e. rw e refl; made = omega arith }
 
 -- a client with no command is in no other phase
@@ -171,6 +172,10 @@ lively_step s w (Entry_is.Gone c) sound l legal = record {
     dies : commands_of s c ≡ [] → LegalEntry s w (Entry_is.Gone c) → ⊥
     dies h (inl p) = not_empty s w c In l p.0 (λ x. grind arith) h
     dies h (inr p) = ended h p.1
+
+pub lively_on : (s : Scene) (w : World) (o : Option Entry) → Sound s w → Lively s w → IsLegal s w o → Lively s (world_after s w o)
+lively_on s w None sound l legal = l
+lively_on s w (Some e) sound l legal = lively_step s w e sound l legal
 
 lively_along : (s : Scene) (w : World) (es : List Entry) → InRange s → Sound s w → Lively s w → LegalEntries s w es → Lively s (after_entries s w es)
 lively_along s w [] good sound l all = l
@@ -281,7 +286,7 @@ moves s k c known l can stuck = by_stop (k.dying c) refl
     by_stop false st = let x = in_phase st (k.world.client c).phase refl can in some_none (turn_of s k c) x.0 (rw st x.1) stuck
 
 -- a client that isn't done has a command
-has_command : (s : Scene) (w : World) (c : ℕ) → Lively s w → is_done (w.client c).phase ≡ false → commands_of s c ≡ [] → ⊥
+pub has_command : (s : Scene) (w : World) (c : ℕ) → Lively s w → is_done (w.client c).phase ≡ false → commands_of s c ≡ [] → ⊥
 has_command s w c l live none = true≢false (sym (ap is_done (l.empty c none)) ∙ live)
 
 whole_at : (s : Scene) (k : Core) → InRange s → Known s k → Lively s k.world → all_pass s k (round s) ≡ true → IsWholeWorld s k.world

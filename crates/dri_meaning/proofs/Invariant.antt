@@ -364,7 +364,7 @@ ran s w c i good inv legal = record {
 }
 
 -- a stamp that is still the shared one after a change was it before, and the window wasn't touched
-stamp_stood : (s : Scene) (w : World) (new : List Window) (stamp n : ℕ) → stamp ≤ w.counter → stamp ≡ stamps_after s w new n →
+pub stamp_stood : (s : Scene) (w : World) (new : List Window) (stamp n : ℕ) → stamp ≤ w.counter → stamp ≡ stamps_after s w new n →
     (stamp ≡ w.stamps n) × (touched_by s w new n ≡ false)
 stamp_stood s w new stamp n le e = by_touch (touched_by s w new n) refl
   where

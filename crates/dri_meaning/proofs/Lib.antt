@@ -1,4 +1,3 @@
-pub mod Examples
 pub mod Invariant
 pub mod Textures
 pub mod Laws
@@ -10,4 +9,7 @@ pub mod CoreLaws
 pub mod Decide
 pub mod OneTurn
 pub mod Endings
-pub mod Scenery
+pub mod Aged
+pub mod Measures
+pub mod Rounds
+pub mod PlainDraws

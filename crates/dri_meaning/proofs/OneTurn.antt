@@ -122,7 +122,7 @@ stale_turn : (s : Scene) (k : Core) (c : ℕ) → Queued s k → LegalEvent s k 
 stale_turn s k c queued possible = grind (arith, nat_tests, queued.alive c)
 
 -- a client that holds isn't stopped
-live_of : (s : Scene) (k : Core) (c : ℕ) → Queued s k → is_holding (k.world.client c).phase ≡ true → k.dying c ≡ false
+pub live_of : (s : Scene) (k : Core) (c : ℕ) → Queued s k → is_holding (k.world.client c).phase ≡ true → k.dying c ≡ false
 live_of s k c q holds = false_from_ne_true _ (λ st. true≢false (sym holds ∙ q.alive c st))
 
 in_turn : (s : Scene) (k : Core) (c : ℕ) → Queued s k → (k.world.client c).phase ≡ Phase_is.In → turn_of s k c ≡ acting_turn s k.world c (command_at s c (k.world.client c).place)

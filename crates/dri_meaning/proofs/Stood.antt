@@ -23,7 +23,8 @@ use Rattle.dri_meaning.specs.Effects.{front_after}
 use Rattle.dri_meaning.specs.Restacks.{next_stack, touched_by, stamps_after, front_painted}
 use Rattle.dri_meaning.specs.Privates.{can_run, can_draw}
 use Rattle.dri_meaning.specs.Runs.{after_entries, LegalEntries, after, HoldRun}
-use Rattle.dri_meaning.specs.Frames.{is_clear, is_swap, Stands, IsNoSwap, NoSwap, across, down, SoloLeft, IsFrame}
+use Rattle.dri_meaning.specs.Frames.{Stands, IsNoSwap, NoSwap, across, down, SoloLeft}
+use Rattle.dri_meaning.specs.Solo.{is_clear, is_swap, IsFrame}
 use Rattle.dri_meaning.proofs.FrameNumbers.{is_frame}
 use Rattle.dri_model.proofs.Touches.{clips_kept, origin_kept, how_many_at}
 use Rattle.dri_meaning.proofs.Textures.{Sound, sound_along, sound_kept, sound_after}
@@ -222,7 +223,7 @@ pub solo_left : (s : Scene) (journal : List Entry) → InRange s → HoldRun s j
 solo_left s journal good run c k first last past middle later rest numbered e stands_middle stands_later noswap x y inside =
     rw numbered (ap Some (shown x y inside))
   where
-    frame : IsFrame (commands_of s c) first last
+    frame : IsFrame (commands_of s c) k first last
     frame = is_frame (commands_of s c) k first last numbered
 
     parts : LegalEntries s (opening s) past × LegalEntries s (after s past) (Run c first ∷ (middle ++ Run c last ∷ (later ++ rest)))

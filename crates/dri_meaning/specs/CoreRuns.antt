@@ -5,10 +5,10 @@ use Rattle.dri_base.specs.declared.journal.Event.TheVariants.{Run}
 use Rattle.dri_base.specs.declared.scene.Scene.{Scene}
 use Rattle.dri_meaning.specs.Cores.{Core, opening_core}
 use Rattle.dri_meaning.specs.EventTable.{LegalEvent, after_event}
-use Rattle.dri_meaning.specs.Frames.{OwnAt, Shows, is_swap}
+use Rattle.dri_meaning.specs.Frames.{OwnAt, Shows}
 use Rattle.dri_meaning.specs.Runs.{SameOutside}
 use Rattle.dri_meaning.specs.Scenes.{command_at, commands_of, window_of}
-use Rattle.dri_meaning.specs.Solo.{frame}
+use Rattle.dri_meaning.specs.Solo.{frame, is_swap}
 use Rattle.dri_meaning.specs.Worlds.{World, clips_in}
 
 -- the core after these events

@@ -8,7 +8,7 @@ use Rattle.dri_meaning.specs.EntryTable.{after_entry}
 use Rattle.dri_meaning.specs.Phases.{Ask, Asking, In, Old, Out, Over, is_done, is_holding, same_phase}
 use Rattle.dri_meaning.specs.Privates.{can_draw, can_run, is_ready, is_triangle, textured_with}
 use Rattle.dri_meaning.specs.Scenes.{command_at, is_named, regions_needed}
-use Rattle.dri_meaning.specs.Worlds.{World}
+use Rattle.dri_meaning.specs.Worlds.{World, opening}
 use Rattle.dri_model.specs.Groups.{bits, is_empty, same_number}
 use Rattle.dri_model.specs.Heaps.{is_place_for}
 use Rattle.dri_base.specs.declared.journal.Entry.TheVariants as Entry_is
@@ -46,3 +46,7 @@ is_legal_entry s w (Entry_is.Gone c) =
 abbrev pub are_legal_entries : Scene → World → List Entry → Bool
 are_legal_entries s w [] = true
 are_legal_entries s w (e ∷ es) = is_legal_entry s w e && are_legal_entries s (after_entry s w e) es
+
+-- the journal is a hold-run, as a test
+abbrev pub is_hold_run : Scene → List Entry → Bool
+is_hold_run s journal = are_legal_entries s (opening s) journal

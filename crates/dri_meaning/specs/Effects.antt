@@ -5,11 +5,12 @@ use Rattle.dri_base.specs.declared.colour.Rgb.{Rgb}
 use Rattle.dri_base.specs.declared.command.Command.{Command}
 use Rattle.dri_base.specs.declared.command.Command.TheVariants.{Clear, Die, Set, Swap, Triangle, Yield}
 use Rattle.dri_base.specs.declared.scene.Scene.{Scene}
-use Rattle.dri_meaning.specs.Phases.{In, Old, Phase, left_from, phase_after}
+use Rattle.dri_meaning.specs.Phases.{In, Old, Out, Phase, left_from, phase_after}
 use Rattle.dri_meaning.specs.Privates.{Private, is_bound_lost, placed_after, state_by, used_run}
 use Rattle.dri_meaning.specs.Scenes.{command_at, commands_of, window_of}
 use Rattle.dri_meaning.specs.Solo.{drawn_by}
-use Rattle.dri_meaning.specs.Worlds.{World}
+use Rattle.dri_meaning.specs.Worlds.{World, clips_in}
+use Rattle.dri_model.specs.Stacks.{origin}
 use Rattle.dri_model.specs.Groups.{all_where, dirtied, with_bound}
 use Rattle.dri_model.specs.Heaps.{Heap, Run, allocated, freed_for, is_newer, lose, touched}
 use Rattle.dri_model.specs.Words.{card_image, rules_in}
@@ -93,4 +94,13 @@ placed_by s w c t first count = record (w.client c) {
   placed = placed_after (w.client c).placed (freed_for s.regions w.heap count) t (run_at first count);
   local = (allocated s.regions w.heap (run_at first count)).global;
   dirty = with_bound true (w.client c).dirty;
+}
+
+-- the client's part after it was told its window's clips, origin and stamp
+abbrev pub told : Scene → World → ℕ → Private
+told s w c = record (w.client c) {
+  phase = Out;
+  stamp = w.stamps (window_of s c);
+  copy = clips_in s w c;
+  origin = origin w.stack (window_of s c);
 }

@@ -4,15 +4,15 @@ use Rattle.dri_base.specs.Texels.{texture_in}
 use Rattle.dri_base.specs.declared.command.Command.TheVariants.{Die}
 use Rattle.dri_base.specs.declared.journal.Entry.{Entry}
 use Rattle.dri_base.specs.declared.scene.Scene.{Scene}
-use Rattle.dri_meaning.specs.Effects.{after_leave, back_after, front_after, heap_after, placed_by, run_at, run_by, taken_in}
+use Rattle.dri_meaning.specs.Effects.{after_leave, back_after, front_after, heap_after, placed_by, run_at, run_by, taken_in, told}
 use Rattle.dri_meaning.specs.Phases.{Ask, Asking, Dead, In, Old, Out, Over, is_done, is_holding}
 use Rattle.dri_meaning.specs.Privates.{can_draw, can_run, is_ready, is_triangle, own_registers, textured_with, used_run}
 use Rattle.dri_meaning.specs.Restacks.{counter_after, front_painted, next_stack, stamps_after}
-use Rattle.dri_meaning.specs.Scenes.{bytes_of, command_at, is_named, regions_needed, textures_of, window_of}
-use Rattle.dri_meaning.specs.Worlds.{World, clips_in, put}
+use Rattle.dri_meaning.specs.Scenes.{bytes_of, command_at, is_named, regions_needed, textures_of}
+use Rattle.dri_meaning.specs.Worlds.{World, put}
 use Rattle.dri_model.specs.Groups.{bits, is_empty, no_groups}
 use Rattle.dri_model.specs.Heaps.{allocated, is_place_for, uploaded}
-use Rattle.dri_model.specs.Stacks.{origin, without_owner}
+use Rattle.dri_model.specs.Stacks.{without_owner}
 use Rattle.dri_model.specs.Words.{loaded}
 use Rattle.dri_base.specs.declared.journal.Entry.TheVariants as Entry_is
 
@@ -65,15 +65,7 @@ after_entry s w (Entry_is.Leave c) = record w {
   left = c + 1;
   client = put w.client c (record (w.client c) { phase = after_leave s c (w.client c) });
 }
-after_entry s w (Entry_is.Info c) = record w {
-  left = 1;
-  client = put w.client c (record (w.client c) {
-    phase = Out;
-    stamp = w.stamps (window_of s c);
-    copy = clips_in s w c;
-    origin = origin w.stack (window_of s c);
-  });
-}
+after_entry s w (Entry_is.Info c) = record w { left = 1; client = put w.client c (told s w c) }
 after_entry s w (Entry_is.Change i) = record w {
   left = 1;
   stack = next_stack s w;

@@ -1,9 +1,8 @@
 -- Frames, which of them stood, and what they leave.
-use Rattle.std.specs.Prelude.{Bool, List, None, Option, Some, [], false, pos, pred, slice_get, true, ℕ, ℤ, ◌++◌, ◌-ℤ◌, ◌<◌, ◌∷◌, ◌≡◌, ◌≢◌}
+use Rattle.std.specs.Prelude.{List, Some, [], pos, true, ℕ, ℤ, ◌++◌, ◌-ℤ◌, ◌∷◌, ◌≡◌, ◌≢◌}
 use Rattle.dri_base.specs.Fragments.{fragment, rules_of}
 use Rattle.dri_base.specs.States.{state_at}
-use Rattle.dri_base.specs.declared.command.Command.{Command}
-use Rattle.dri_base.specs.declared.command.Command.TheVariants.{Clear, Die, Set, Swap, Triangle, Yield}
+use Rattle.dri_base.specs.declared.command.Command.TheVariants.{Triangle}
 use Rattle.dri_base.specs.declared.journal.Entry.{Entry}
 use Rattle.dri_base.specs.declared.journal.Entry.TheVariants.{Run}
 use Rattle.dri_base.specs.declared.scene.Scene.{Scene}
@@ -11,36 +10,9 @@ use Rattle.dri_base.specs.declared.shape.Triangle.{Triangle as TriangleShape}
 use Rattle.dri_meaning.specs.EntryTable.{after_entry}
 use Rattle.dri_meaning.specs.Runs.{after, after_entries}
 use Rattle.dri_meaning.specs.Scenes.{command_at, commands_of, script_of, window_of}
-use Rattle.dri_meaning.specs.Solo.{frame, image_at, solo_frame}
+use Rattle.dri_meaning.specs.Solo.{frame, image_at, is_swap, solo_frame}
 use Rattle.dri_meaning.specs.Worlds.{World, clips_in}
 use Rattle.dri_model.specs.Stacks.{origin}
-
--- the command is a clear
-abbrev pub is_clear : Option Command → Bool
-is_clear (Some (Clear colour depth)) = true
-is_clear (Some (Set setting)) = false
-is_clear (Some (Triangle t)) = false
-is_clear (Some Swap) = false
-is_clear (Some Yield) = false
-is_clear (Some Die) = false
-is_clear None = false
-
--- the command is a swap
-abbrev pub is_swap : Option Command → Bool
-is_swap (Some Swap) = true
-is_swap (Some (Clear colour depth)) = false
-is_swap (Some (Set setting)) = false
-is_swap (Some (Triangle t)) = false
-is_swap (Some Yield) = false
-is_swap (Some Die) = false
-is_swap None = false
-
--- a frame's swap stands at place last, its last clear at place first, and neither between them
-pub record IsFrame (cs : List Command) (first last : ℕ) : Type 0 where
-  pub order : first < last
-  pub clear : is_clear (slice_get cs (pred first)) ≡ true
-  pub swap : is_swap (slice_get cs (pred last)) ≡ true
-  pub inner : (j : ℕ) → first < j → j < last → (is_clear (slice_get cs (pred j)) ≡ false) × (is_swap (slice_get cs (pred j)) ≡ false)
 
 -- none of these entries gives window n a new stamp
 abbrev pub Stands : Scene → ℕ → World → List Entry → Type 0

@@ -14,5 +14,8 @@ pub mod CoreRuns
 pub mod Turns
 pub mod TurnLaws
 pub mod Decide
+pub mod Measures
 pub mod Reports
-pub mod Examples
+pub mod ExampleScenes
+pub mod ExampleRuns
+pub mod PlainScripts

@@ -1,5 +1,5 @@
 -- Hold-runs, and what is said of them.
-use Rattle.std.specs.Prelude.{Bool, List, None, Some, [], false, filter, get_or, length, true, ℕ, ◌*◌, ◌++◌, ◌+◌, ◌<◌, ◌==◌, ◌∷◌, ◌≡◌, ◌≤◌, ◌⊎◌}
+use Rattle.std.specs.Prelude.{drop, Bool, List, None, Some, [], false, filter, get_or, length, true, ℕ, ◌*◌, ◌++◌, ◌+◌, ◌<◌, ◌==◌, ◌∷◌, ◌≡◌, ◌≤◌, ◌⊎◌}
 use Rattle.dri_base.specs.Texels.{texture_in}
 use Rattle.dri_base.specs.declared.journal.Entry.{Entry}
 use Rattle.dri_base.specs.declared.journal.Entry.TheVariants.{Run}
@@ -119,6 +119,14 @@ client_of (Entry_is.Gone c) = c
 -- the context that an entry belongs to: 1 is the server's, client c's is c + 1
 abbrev pub context_of : Entry → ℕ
 context_of e = client_of e + 1
+
+-- the entries of a journal after those that were seen
+abbrev pub since : List Entry → List Entry → List Entry
+since seen now = drop (length seen) now
+
+-- the journal begins with the entries that were seen
+abbrev pub BeginsWith : List Entry → List Entry → Type 0
+BeginsWith now seen = now ≡ seen ++ since seen now
 
 -- the entries that belong to a context, in order
 abbrev pub mine : List Entry → ℕ → List Entry

@@ -1,5 +1,5 @@
 -- What is given: the screen, the windows, the scripts with their textures, the changes, the schedule.
-use Rattle.std.specs.Prelude.{◌≡◌, ◌≢◌, ◌<◌, ◌≤◌, ℕ, ◌+◌, ◌-◌, ◌*◌, ◌/◌, List, [], ◌∷◌, length, Bool, false, ◌==◌, ◌||◌, if◌then◌else◌, slice_get, Option, Some, None, pred}
+use Rattle.std.specs.Prelude.{map, ◌≡◌, ◌≢◌, ◌<◌, ◌≤◌, ℕ, ◌+◌, ◌-◌, ◌*◌, ◌/◌, List, [], ◌∷◌, length, Bool, false, ◌==◌, ◌||◌, if◌then◌else◌, slice_get, Option, Some, None, pred}
 pub use Rattle.dri_base.specs.declared.scene.Scene.{Scene}
 pub use Rattle.dri_base.specs.declared.scene.ClientScript.{ClientScript}
 use Rattle.dri_base.specs.declared.command.Command.{Command}
@@ -18,6 +18,10 @@ script_in (p ∷ ps) c = if p.number == c then p else script_in ps c
 -- the script of client c in the scene
 abbrev pub script_of : Scene → ℕ → ClientScript
 script_of s c = script_in s.clients c
+
+-- the numbers of the clients
+abbrev pub client_numbers : List ClientScript → List ℕ
+client_numbers clients = map (λ c. c.number) clients
 
 -- the commands of client c
 abbrev pub commands_of : Scene → ℕ → List Command

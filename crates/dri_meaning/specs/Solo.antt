@@ -1,5 +1,5 @@
 -- What a script means alone: no screen, window, lock, register, age or clip occurs here.
-use Rattle.std.specs.Prelude.{ℕ, zero, suc, ◌+◌, ◌-◌, List, [], ◌∷◌, slice_get, pred, ◌==◌, if◌then◌else◌, Option, Some, None, ℤ}
+use Rattle.std.specs.Prelude.{◌≡◌, ◌<◌, Bool, true, false, ℕ, zero, suc, ◌+◌, ◌-◌, List, [], ◌∷◌, slice_get, pred, ◌==◌, if◌then◌else◌, Option, Some, None, ℤ}
 use Rattle.dri_base.specs.declared.colour.Rgb.{Rgb}
 use Rattle.dri_base.specs.declared.command.Command.{Command}
 use Rattle.dri_base.specs.declared.command.Command.TheVariants.{Set, Clear, Triangle, Swap, Yield, Die}
@@ -8,6 +8,7 @@ use Rattle.dri_base.specs.States.{state_at}
 use Rattle.dri_base.specs.Texels.{Image, own_image}
 use Rattle.dri_base.specs.declared.colour.Pixel.{Pixel}
 use Rattle.dri_base.specs.Fragments.{Rules, rules_of, fragment}
+use Rattle.dri_model.specs.Counting.{how_many}
 
 -- black, as deep as can be: what stands under a frame's clear
 abbrev pub blank : Pixel
@@ -35,6 +36,39 @@ drawn_at p i x y under = drawn_by (rules_of (state_at p.commands i)) (image_at p
 abbrev pub solo : ClientScript → ℕ → ℕ → ℤ → ℤ → Pixel
 solo p first zero x y = drawn_at p first x y blank
 solo p first (suc n) x y = drawn_at p (first + suc n) x y (solo p first n x y)
+
+-- the command is a clear
+abbrev pub is_clear : Option Command → Bool
+is_clear (Some (Clear colour depth)) = true
+is_clear (Some (Set setting)) = false
+is_clear (Some (Triangle t)) = false
+is_clear (Some Swap) = false
+is_clear (Some Yield) = false
+is_clear (Some Die) = false
+is_clear None = false
+
+-- the command is a swap
+abbrev pub is_swap : Option Command → Bool
+is_swap (Some Swap) = true
+is_swap (Some (Clear colour depth)) = false
+is_swap (Some (Set setting)) = false
+is_swap (Some (Triangle t)) = false
+is_swap (Some Yield) = false
+is_swap (Some Die) = false
+is_swap None = false
+
+-- how many swaps stand before a place
+abbrev pub swaps_before : List Command → ℕ → ℕ
+swaps_before cs place = how_many (λ j. is_swap (slice_get cs j)) (pred place)
+
+-- frame k ends with the script's swap k, at place last; its last clear stands at place first, with neither clear nor swap between
+pub record IsFrame (cs : List Command) (k first last : ℕ) : Type 0 where
+  pub counted : 0 < first
+  pub order : first < last
+  pub clear : is_clear (slice_get cs (pred first)) ≡ true
+  pub swap : is_swap (slice_get cs (pred last)) ≡ true
+  pub number : k ≡ swaps_before cs last + 1
+  pub inner : (j : ℕ) → first < j → j < last → (is_clear (slice_get cs (pred j)) ≡ false) × (is_swap (slice_get cs (pred j)) ≡ false)
 
 -- the places of a frame's last clear and of its swap, where it has a clear
 abbrev pub with_swap : Option ℕ → ℕ → Option (ℕ × ℕ)

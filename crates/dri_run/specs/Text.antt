@@ -49,11 +49,13 @@ opening = record {
 abbrev pub with_window : Reading → Window → Reading
 with_window reading window = record reading { place = places.Client; scene = record reading.scene { windows = reading.scene.windows ++ window ∷ [] } }
 
+-- the block with a command more
+abbrev pub commanded : Reading → Command → Place → Reading
+commanded reading command next = record reading { place = next; script = record reading.script { commands = reading.script.commands ++ command ∷ [] } }
+
 -- a command more, of at most 100,000
 abbrev pub with_command : Reading → Command → Place → Option Reading
-with_command reading command next = if nat_lt (length reading.script.commands) 100000
-    then Some (record reading { place = next; script = record reading.script { commands = reading.script.commands ++ command ∷ [] } })
-    else None
+with_command reading command next = if nat_lt (length reading.script.commands) 100000 then Some (commanded reading command next) else None
 
 -- the block is whole
 abbrev pub with_block : Reading → Reading

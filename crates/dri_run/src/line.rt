@@ -5,6 +5,8 @@ ghost use Rattle.std.specs.Prelude.{◌≡◌, ◌≤◌, ◌≤ℤ◌, IfSome};
 ghost use Rattle.std.specs.Option.{option_map};
 ghost use Rattle.dri_words.specs.Parts.{parts_at};
 ghost use Rattle.dri_run.specs.Lines.{ranged_at, signed_at, region_size_at, up_at, title_of, screen_of, heap_of, window_of, client_of, clear_of, corner_at, triangle_of, line_of};
+ghost use Rattle.dri_base.specs.Ranges.{VertexInRange};
+ghost use Rattle.dri_run.specs.Shapes.{LineInRange};
 
 use dri_base::{Rgb, Triangle, Vertex, Window};
 use dri_words::{Parts, alone, colour, colour_alpha, number, signed_within, within, word};
@@ -28,7 +30,7 @@ pub enum Line {
 #[tactic(auto, unfolding(crate::specs::Lines::ranged_at))]
 fn ranged(words: Parts<'_>, low: u32, high: u32) -> Option<(u32, Parts<'_>)>
     ensures value { option_map (λ x. (x.0, x.1)) result ≡ ranged_at low high words.entry }
-    ensures bound { IfSome result (λ x. x.0 ≤ high) }
+    ensures bound { IfSome result (λ x. (low ≤ x.0) × (x.0 ≤ high)) }
 {
     let (value, rest) = number(words)?;
     let value = within(low, high, value)?;
@@ -38,7 +40,8 @@ fn ranged(words: Parts<'_>, low: u32, high: u32) -> Option<(u32, Parts<'_>)>
 /// A number of either sign from `low` to `high`, and the words after it.
 #[tactic(auto, unfolding(crate::specs::Lines::signed_at))]
 fn signed(words: Parts<'_>, low: i32, high: i32) -> Option<(i32, Parts<'_>)>
-    ensures { option_map (λ x. (x.0, x.1)) result ≡ signed_at low high words.entry }
+    ensures value { option_map (λ x. (x.0, x.1)) result ≡ signed_at low high words.entry }
+    ensures bound { IfSome result (λ x. (low ≤ℤ x.0) × (x.0 ≤ℤ high)) }
 {
     let (value, rest) = number(words)?;
     let value = signed_within(low, high, value)?;
@@ -56,7 +59,8 @@ fn small(words: Parts<'_>) -> Option<(u16, Parts<'_>)>
 /// `dri 1`
 #[tactic(auto, unfolding(crate::specs::Lines::title_of))]
 fn title(fields: Parts<'_>) -> Option<Line>
-    ensures { result ≡ title_of fields.entry }
+    ensures value { result ≡ title_of fields.entry }
+    ensures range { IfSome result LineInRange }
 {
     let (_, rest) = ranged(fields, 1, 1)?;
     alone(Line::Title, rest)
@@ -65,7 +69,8 @@ fn title(fields: Parts<'_>) -> Option<Line>
 /// `screen W H RRGGBB`
 #[tactic(auto, unfolding(crate::specs::Lines::screen_of))]
 fn screen(fields: Parts<'_>) -> Option<Line>
-    ensures { result ≡ screen_of fields.entry }
+    ensures value { result ≡ screen_of fields.entry }
+    ensures range { IfSome result LineInRange }
 {
     let (width, rest) = ranged(fields, 1, 1024)?;
     let (height, rest) = ranged(rest, 1, 1024)?;
@@ -95,7 +100,8 @@ fn region_size(words: Parts<'_>) -> Option<(u32, Parts<'_>)>
 /// `heap N SIZE`
 #[tactic(auto, unfolding(crate::specs::Lines::heap_of))]
 fn heap(fields: Parts<'_>) -> Option<Line>
-    ensures { result ≡ heap_of fields.entry }
+    ensures value { result ≡ heap_of fields.entry }
+    ensures range { IfSome result LineInRange }
 {
     let (regions, rest) = ranged(fields, 1, 64)?;
     let (region_size, rest) = region_size(rest)?;
@@ -124,7 +130,8 @@ fn up(words: Parts<'_>) -> Option<(bool, Parts<'_>)>
 /// `window 1 X Y WIDTH HEIGHT RRGGBB 1 up`
 #[tactic(auto, unfolding(crate::specs::Lines::window_of))]
 fn window(fields: Parts<'_>) -> Option<Line>
-    ensures { result ≡ window_of fields.entry }
+    ensures value { result ≡ window_of fields.entry }
+    ensures range { IfSome result LineInRange }
 {
     let (number, rest) = ranged(fields, 1, 1)?;
     let (x, rest) = signed(rest, -1024, 1024)?;
@@ -152,7 +159,8 @@ fn window(fields: Parts<'_>) -> Option<Line>
 /// `client 1 1`
 #[tactic(auto, unfolding(crate::specs::Lines::client_of))]
 fn client(fields: Parts<'_>) -> Option<Line>
-    ensures { result ≡ client_of fields.entry }
+    ensures value { result ≡ client_of fields.entry }
+    ensures range { IfSome result LineInRange }
 {
     let (number, rest) = ranged(fields, 1, 1)?;
     let (window, rest) = ranged(rest, 1, 1)?;
@@ -162,7 +170,8 @@ fn client(fields: Parts<'_>) -> Option<Line>
 /// `clear RRGGBB Z`
 #[tactic(auto, unfolding(crate::specs::Lines::clear_of))]
 fn clear(fields: Parts<'_>) -> Option<Line>
-    ensures { result ≡ clear_of fields.entry }
+    ensures value { result ≡ clear_of fields.entry }
+    ensures range { IfSome result LineInRange }
 {
     let (colour, rest) = colour(fields)?;
     let (depth, rest) = small(rest)?;
@@ -172,7 +181,8 @@ fn clear(fields: Parts<'_>) -> Option<Line>
 /// `X Y Z RRGGBBAA S T`, a corner of a triangle.
 #[tactic(auto, unfolding(crate::specs::Lines::corner_at))]
 fn corner(fields: Parts<'_>) -> Option<(Vertex, Parts<'_>)>
-    ensures { option_map (λ x. (x.0, x.1)) result ≡ corner_at fields.entry }
+    ensures value { option_map (λ x. (x.0, x.1)) result ≡ corner_at fields.entry }
+    ensures range { IfSome result (λ x. VertexInRange x.0) }
 {
     let (x, rest) = signed(fields, -32768, 32767)?;
     let (y, rest) = signed(rest, -32768, 32767)?;
@@ -196,7 +206,8 @@ fn corner(fields: Parts<'_>) -> Option<(Vertex, Parts<'_>)>
 /// `triangle` and three corners
 #[tactic(auto, unfolding(crate::specs::Lines::triangle_of))]
 fn triangle(fields: Parts<'_>) -> Option<Line>
-    ensures { result ≡ triangle_of fields.entry }
+    ensures value { result ≡ triangle_of fields.entry }
+    ensures range { IfSome result LineInRange }
 {
     let (a, rest) = corner(fields)?;
     let (b, rest) = corner(rest)?;
@@ -207,7 +218,8 @@ fn triangle(fields: Parts<'_>) -> Option<Line>
 /// The line that the bytes spell.
 #[tactic(auto, unfolding(crate::specs::Lines::line_of))]
 pub fn line_of(bytes: &[u8]) -> Option<Line>
-    ensures { result ≡ line_of (parts_at 32 bytes.now) }
+    ensures value { result ≡ line_of (parts_at 32 bytes.now) }
+    ensures range { IfSome result LineInRange }
 {
     let (keyword, fields) = word(Parts::new(bytes, b' '))?;
     if keyword == b"dri".as_slice() {

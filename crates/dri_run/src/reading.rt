@@ -1,8 +1,11 @@
 //! The reader of a scene's text: a state that each line takes on. The place says which lines are allowed next.
 
-ghost use Rattle.std.specs.Prelude.{◌≡◌, ◌++◌, ◌∷◌, [], Some, None};
+ghost use Rattle.std.specs.Prelude.{◌≡◌, ◌++◌, ◌∷◌, [], Some, None, IfOk};
+ghost use Rattle.std.specs.Option.{ForSome};
 ghost use Rattle.dri_words.specs.Parts.{parts_at};
-ghost use Rattle.dri_run.specs.Text.{Gives, after_bytes, after_form, after_in_block, after_in_head, after_line, is_end, is_passed_over, no_script, opening, scene_of, with_block, with_command, with_window};
+ghost use Rattle.dri_base.specs.Ranges.{WindowInRange};
+ghost use Rattle.dri_run.specs.Shapes.{IsDrawable, IsOneFrame, IsSound, LineInRange};
+ghost use Rattle.dri_run.specs.Text.{Gives, after_bytes, after_form, after_in_block, after_in_head, after_line, commanded, is_end, is_passed_over, no_script, opening, scene_of, with_block, with_command, with_window};
 
 use crate::line::{Line, line_of};
 use dri_base::{
@@ -81,7 +84,8 @@ fn no_script(alloc: Global) -> ClientScript
 
 /// Before the first line.
 fn opening(alloc: Global) -> Reading
-    ensures { result ≡ opening }
+    ensures value { result ≡ opening }
+    ensures sound { IsSound result }
 {
     Reading {
         place: Place::Title,
@@ -102,7 +106,11 @@ fn opening(alloc: Global) -> Reading
 
 /// Takes on a window.
 fn with_window(mut reading: Reading, window: Window) -> Result<Reading, Stop>
-    ensures { Gives result (Some (with_window reading window)) }
+    requires sound { IsSound reading }
+    requires range { WindowInRange window }
+    requires place { reading.place ≡ Place.Body }
+    ensures value { Gives result (Some (with_window reading window)) }
+    ensures sound { IfOk result IsSound }
 {
     reading.scene.windows.push(window)?;
     reading.place = Place::Client;
@@ -111,7 +119,9 @@ fn with_window(mut reading: Reading, window: Window) -> Result<Reading, Stop>
 
 /// Takes on a command of the block, unless the scene has as many as it may.
 fn with_command(mut reading: Reading, command: Command, next: Place) -> Result<Reading, Stop>
-    ensures { Gives result (with_command reading command next) }
+    requires sound { IsSound (commanded reading command next) }
+    ensures value { Gives result (with_command reading command next) }
+    ensures sound { IfOk result IsSound }
 {
     if reading.script.commands.len() >= MOST_COMMANDS {
         return Err(Stop::Refused);
@@ -123,7 +133,10 @@ fn with_command(mut reading: Reading, command: Command, next: Place) -> Result<R
 
 /// Ends the block.
 fn with_block(mut reading: Reading, alloc: Global) -> Result<Reading, Stop>
-    ensures { Gives result (Some (with_block reading)) }
+    requires sound { IsSound reading }
+    requires place { reading.place ≡ Place.BlockEnd }
+    ensures value { Gives result (Some (with_block reading)) }
+    ensures sound { IfOk result IsSound }
 {
     let script = std::mem::replace(&mut reading.script, no_script(alloc));
     reading.scene.clients.push(script)?;
@@ -132,9 +145,12 @@ fn with_block(mut reading: Reading, alloc: Global) -> Result<Reading, Stop>
 }
 
 /// Takes on a line of the client's block.
-#[tactic(auto, unfolding(crate::specs::Text::after_in_block))]
+#[tactic(auto, unfolding(crate::specs::Text::after_in_block), using(crate::proofs::Soundness::begun, crate::proofs::Soundness::drawn, crate::proofs::Soundness::swapped))]
 fn after_in_block(mut reading: Reading, alloc: Global, line: &Line) -> Result<Reading, Stop>
-    ensures { Gives result (after_in_block reading.place reading line.now) }
+    requires sound { IsSound reading }
+    requires range { LineInRange line.now }
+    ensures value { Gives result (after_in_block reading.place reading line.now) }
+    ensures sound { IfOk result IsSound }
 {
     match (reading.place, line) {
         (Place::Client, Line::Client { number, window }) => {
@@ -162,7 +178,10 @@ fn after_in_block(mut reading: Reading, alloc: Global, line: &Line) -> Result<Re
 /// Takes on a line of the scene's head, or its end.
 #[tactic(auto, unfolding(crate::specs::Text::after_in_head))]
 fn after_in_head(mut reading: Reading, line: &Line) -> Result<Reading, Stop>
-    ensures { Gives result (after_in_head reading.place reading line.now) }
+    requires sound { IsSound reading }
+    requires range { LineInRange line.now }
+    ensures value { Gives result (after_in_head reading.place reading line.now) }
+    ensures sound { IfOk result IsSound }
 {
     match (reading.place, line) {
         (Place::Title, Line::Title) => reading.place = Place::Screen,
@@ -200,7 +219,10 @@ fn after_in_head(mut reading: Reading, line: &Line) -> Result<Reading, Stop>
 /// Takes on a line, where it is allowed at this place.
 #[tactic(auto, unfolding(crate::specs::Text::after_line))]
 fn after_line(reading: Reading, alloc: Global, line: &Line) -> Result<Reading, Stop>
-    ensures { Gives result (after_line reading.place reading line.now) }
+    requires sound { IsSound reading }
+    requires range { LineInRange line.now }
+    ensures value { Gives result (after_line reading.place reading line.now) }
+    ensures sound { IfOk result IsSound }
 {
     match (reading.place, line) {
         (Place::Body, Line::Window(window)) => with_window(reading, *window),
@@ -224,7 +246,10 @@ fn is_passed_over(bytes: &[u8]) -> bool
 
 /// Takes on a line, where it is of a form.
 fn after_form(reading: Reading, alloc: Global, line: Option<Line>) -> Result<Reading, Stop>
-    ensures { Gives result (after_form reading line) }
+    requires sound { IsSound reading }
+    requires range { ForSome line LineInRange }
+    ensures value { Gives result (after_form reading line) }
+    ensures sound { IfOk result IsSound }
 {
     match line {
         None => Err(Stop::Refused),
@@ -235,7 +260,9 @@ fn after_form(reading: Reading, alloc: Global, line: Option<Line>) -> Result<Rea
 /// Takes on a line's bytes.
 #[tactic(auto, unfolding(crate::specs::Text::after_bytes))]
 fn after_bytes(reading: Reading, alloc: Global, bytes: &[u8]) -> Result<Reading, Stop>
-    ensures { Gives result (after_bytes reading bytes.now) }
+    requires sound { IsSound reading }
+    ensures value { Gives result (after_bytes reading bytes.now) }
+    ensures sound { IfOk result IsSound }
 {
     if is_passed_over(bytes) {
         return Ok(reading);
@@ -256,7 +283,8 @@ fn is_end(place: Place) -> bool
 /// The scene that the bytes spell. It is refused exactly where they spell none.
 #[tactic(auto, unfolding(crate::specs::Text::scene_of))]
 pub fn scene_from(alloc: Global, bytes: &[u8]) -> Result<Scene, Stop>
-    ensures { Gives result (scene_of bytes.now) }
+    ensures value { Gives result (scene_of bytes.now) }
+    ensures drawable { IfOk result IsDrawable }
 {
     let mut reading = opening(alloc);
     let mut lines = Parts::new(bytes, b'\n');

@@ -152,7 +152,8 @@ pub fn colour_alpha(words: Parts<'_>) -> Option<(Rgba, Parts<'_>)>
 
 /// The value, where no word is left.
 pub fn alone<T: Drop>(value: T, words: Parts<'_>) -> Option<T>
-    ensures { result ≡ alone value words.entry }
+    ensures value { result ≡ alone value words.entry }
+    ensures same { IfSome result (λ v. v ≡ value) }
 {
     if words.is_empty() { Some(value) } else { None }
 }

@@ -1,5 +1,0 @@
-use Rattle.dri_meaning.proofs.Laws.{confined_run}
-use Rattle.dri_meaning.proofs.confined.Goals as goal
-
-pub returns : goal.returns
-returns c = confined_run

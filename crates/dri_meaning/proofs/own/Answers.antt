@@ -1,5 +1,0 @@
-use Rattle.dri_meaning.proofs.Draws.{own_run}
-use Rattle.dri_meaning.proofs.own.Goals as goal
-
-pub returns : goal.returns
-returns c = own_run

@@ -1,5 +1,0 @@
-use Rattle.dri_meaning.proofs.Endings.{whole_where_passed as whole}
-use Rattle.dri_meaning.proofs.whole_where_passed.Goals as goal
-
-pub returns : goal.returns
-returns c = whole

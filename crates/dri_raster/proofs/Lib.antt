@@ -1,0 +1,4 @@
+pub mod Bounds
+pub mod Distances
+pub mod Rings
+pub mod Covered
