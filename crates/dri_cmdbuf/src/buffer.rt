@@ -87,17 +87,8 @@ impl Buffer {
         ensures full { IfErr result (λ e. IsRefused self.old 13 e × (self.new ≡ self.old)) }
     {
         self.room_for(WORDS as u32)?;
-        append(&mut self.words, &spelling::triangle(triangle));
+        let words = spelling::triangle(triangle);
+        self.words.try_extend_from_slice(words.as_slice()).unwrap();
         Ok(())
-    }
-}
-
-// Puts words last, where there is room for them.
-fn append(buffer: &mut ArrayVec<u32, 4096>, words: &[u32; 13])
-    requires { length buffer.old.items + 13 ≤ 4096 }
-    ensures { buffer.new.items ≡ buffer.old.items ++ words.now }
-{
-    for word in words {
-        buffer.push(*word);
     }
 }

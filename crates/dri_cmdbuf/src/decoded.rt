@@ -1,10 +1,11 @@
 //! Words are read back as triangles. They are tested one by one, each at its place among a triangle's thirteen words,
 //! and a triangle is made of its words when it is asked for.
 
-ghost use Rattle.std.specs.Prelude.{◌≡◌, ◌<◌, ◌≤◌, ◌+◌, ◌*◌, ◌/◌, ◌%◌, ℕ, length, slice_get, slice_index, Some, IfOk, IfErr, All};
+ghost use Rattle.std.specs.Prelude.{◌≡◌, ◌<◌, ◌≤◌, ◌+◌, ◌*◌, ◌/◌, ◌%◌, ℕ, length, slice_get, slice_index, List, Some, IfOk, IfErr, All};
+ghost use Rattle.dri_base.specs.declared.shape.Triangle.{Triangle};
 ghost use Rattle.dri_model.specs.CommandWords.{Buffer as IsBuffer, buffer_words, IsTriangle};
 ghost use Rattle.dri_model.specs.WordFaults.{IsBadWord};
-ghost use Rattle.dri_cmdbuf.specs.Decoding.{is_good, coordinate_of, colour_of, vertex_of, triangle_of, triangles_of};
+ghost use Rattle.dri_cmdbuf.specs.Decoding.{is_good, coordinate_of, colour_of, vertex_of, triangle_of, triangles_of, IsWhole};
 
 use crate::spelling::{HEADER, WORDS};
 use dri_base::{Rgba, Triangle, Vertex};
@@ -52,6 +53,7 @@ fn can_stand(place: usize, word: u32) -> bool
 pub fn decode(words: &[u32]) -> Result<Decoded<'_>, BadWord>
     requires { length words.now ≤ 4096 }
     ensures triangles { IfOk result (λ d. All IsTriangle d × (words.now ≡ buffer_words d)) }
+    ensures read { (triangles : List Triangle) → All IsTriangle triangles → words.now ≡ buffer_words triangles → result ≡ Ok triangles }
     ensures bad { IfErr result (λ e. IsBadWord IsBuffer words.now e.at e.word) }
 {
     for (at, word) in words.iter().enumerate() {
@@ -109,6 +111,20 @@ fn vertex(words: &[u32], i: usize) -> Vertex
     }
 }
 
+// Triangle i, counted from 0.
+fn triangle(words: &[u32], i: usize) -> Triangle
+    requires whole { IsWhole words.now }
+    requires there { i < length words.now / 13 }
+    ensures { result ≡ triangle_of words.now i }
+{
+    let first = i * WORDS;
+    Triangle {
+        a: vertex(words, first + 1),
+        b: vertex(words, first + 5),
+        c: vertex(words, first + 9),
+    }
+}
+
 impl<'a> Decoded<'a> {
     /// How many triangles there are.
     pub fn len(&self) -> u32
@@ -122,11 +138,6 @@ impl<'a> Decoded<'a> {
         requires { i < length self.now }
         ensures { slice_get self.now i ≡ Some result }
     {
-        let first = i as usize * WORDS;
-        Triangle {
-            a: vertex(self.words, first + 1),
-            b: vertex(self.words, first + 5),
-            c: vertex(self.words, first + 9),
-        }
+        triangle(self.words, i as usize)
     }
 }

@@ -4,6 +4,8 @@
 mod buffer;
 mod decoded;
 mod spelling;
+#[cfg(test)]
+mod tests;
 
 pub use buffer::{Buffer, BufferFull};
 pub use decoded::{BadWord, Decoded, decode};
