@@ -1,0 +1,69 @@
+-- Words of sixteen and eight bits, there and back.
+use Rattle.std.proofs.Common.{◌≡◌, ℕ, ◌+◌, ◌-◌, ◌*◌, ◌/◌, ◌%◌, ◌<◌, ◌≤◌, Bool, true, false, ℤ, pos, negsuc, ◌+ℤ◌, ◌-ℤ◌, nat_abs, int_lt, int_le, nat_lt, if◌then◌else◌, refl, sym, ap, ◌∙◌, inl, inr, arith}
+use Rattle.std.proofs.lemmas.Int.{ints}
+use Rattle.std.proofs.lemmas.Bool.{cases_lt, lt-ltb, le-ltb, cond-true, cond-false}
+use Rattle.std.proofs.Math.Nat.{div-div-eq-div-mul}
+use Rattle.dri_base.specs.declared.colour.Rgba.{Rgba}
+use Rattle.dri_model.specs.Words.{halves}
+use Rattle.dri_model.specs.CommandWords.{low_half, colour_word, IsCoordinate, IsColour}
+use Rattle.dri_cmdbuf.specs.Decoding.{coordinate_of, colour_of}
+
+-- the two halves of a word
+pub halved : (w : ℕ) → halves (w % 65536) (w / 65536) ≡ w
+halved w = omega arith
+
+low_pos : (n : ℕ) → low_half (pos n) ≡ n
+low_pos n = cond-false (int_lt (pos n) (pos 0)) (nat_abs (pos n +ℤ pos 65536)) n (grind (arith, ints))
+
+low_neg : (n : ℕ) → low_half (negsuc n) ≡ nat_abs (negsuc n +ℤ pos 65536)
+low_neg n = cond-true (int_lt (negsuc n) (pos 0)) (nat_abs (negsuc n +ℤ pos 65536)) (nat_abs (negsuc n)) (grind (arith, ints))
+
+-- sixteen bits as a coordinate, and back
+pub low_of : (h : ℕ) → h ≤ 65535 → low_half (coordinate_of h) ≡ h
+low_of h small = elim (cases_lt h 32768) as (λ _. low_half (coordinate_of h) ≡ h) [
+  | inl low ↦ ap low_half (cond-true (nat_lt h 32768) (pos h) (pos h -ℤ pos 65536) (lt-ltb h 32768 low)) ∙ low_pos h
+  | inr high ↦
+      let k : ℕ = 65535 - h in
+      let e : pos h -ℤ pos 65536 ≡ negsuc k = omega (arith, ints) in
+      let back : negsuc k +ℤ pos 65536 ≡ pos h = omega (arith, ints) in
+      ap low_half (cond-false (nat_lt h 32768) (pos h) (pos h -ℤ pos 65536) (le-ltb h 32768 high) ∙ e) ∙ low_neg k ∙ ap nat_abs back
+]
+
+-- a coordinate as sixteen bits, and back
+pub coordinate_back : (v : ℤ) → IsCoordinate v → coordinate_of (low_half v) ≡ v
+coordinate_back (pos n) inside =
+    let most : n < 32768 = grind (arith, ints, inside.most) in
+    ap coordinate_of (low_pos n) ∙ cond-true (nat_lt n 32768) (pos n) (pos n -ℤ pos 65536) (lt-ltb n 32768 most)
+coordinate_back (negsuc n) inside =
+    let least : n < 32768 = grind (arith, ints, inside.least) in
+    let h : ℕ = 65535 - n in
+    let e : negsuc n +ℤ pos 65536 ≡ pos h = omega (arith, ints) in
+    let high : 32768 ≤ h = omega arith in
+    let back : pos h -ℤ pos 65536 ≡ negsuc n = omega (arith, ints) in
+    ap coordinate_of (low_neg n ∙ ap nat_abs e) ∙ cond-false (nat_lt h 32768) (pos h) (pos h -ℤ pos 65536) (le-ltb h 32768 high) ∙ back
+
+pub low_small : (v : ℤ) → IsCoordinate v → low_half v ≤ 65535
+low_small (pos n) inside = let most : n < 32768 = grind (arith, ints, inside.most) in rw (low_pos n) (omega arith)
+low_small (negsuc n) inside =
+    let least : n < 32768 = grind (arith, ints, inside.least) in
+    let e : negsuc n +ℤ pos 65536 ≡ pos (65535 - n) = omega (arith, ints) in
+    rw (low_neg n, e) (omega arith)
+
+pub coordinate_inside : (h : ℕ) → h ≤ 65535 → IsCoordinate (coordinate_of h)
+coordinate_inside h small = elim (cases_lt h 32768) as (λ _. IsCoordinate (coordinate_of h)) [
+  | inl low ↦ rw (cond-true (nat_lt h 32768) (pos h) (pos h -ℤ pos 65536) (lt-ltb h 32768 low)) (record { least = grind (arith, ints); most = grind (arith, ints) })
+  | inr high ↦ rw (cond-false (nat_lt h 32768) (pos h) (pos h -ℤ pos 65536) (le-ltb h 32768 high)) (record { least = grind (arith, ints); most = grind (arith, ints) })
+]
+
+-- a word's colour, and back
+pub coloured : (w : ℕ) → colour_word (colour_of w) ≡ w
+coloured w =
+    let second : w / 256 / 256 ≡ w / 65536 = div-div-eq-div-mul w 256 256 in
+    let third : w / 65536 / 256 ≡ w / 16777216 = div-div-eq-div-mul w 65536 256 in
+    let a : 256 * (w / 256) + w % 256 ≡ w = omega arith in
+    let b : 256 * (w / 256 / 256) + w / 256 % 256 ≡ w / 256 = omega arith in
+    let c : 256 * (w / 65536 / 256) + w / 65536 % 256 ≡ w / 65536 = omega arith in
+    omega (arith, a, rw second at b, rw third at c)
+
+pub colour_inside : (w : ℕ) → w < 4294967296 → IsColour (colour_of w)
+colour_inside w small = record { r = omega arith; g = omega arith; b = omega arith; a = omega arith }

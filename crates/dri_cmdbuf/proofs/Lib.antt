@@ -1,0 +1,4 @@
+pub mod Halves
+pub mod Grammar
+pub mod Places
+pub mod OneReading

@@ -1,0 +1,11 @@
+//! The card's command buffers: triangles of thirteen words each, put into a buffer of fixed size and read back.
+#![tactic(auto)]
+
+mod buffer;
+mod decoded;
+mod spelling;
+#[cfg(test)]
+mod tests;
+
+pub use buffer::{Buffer, BufferFull};
+pub use decoded::{BadWord, Decoded, decode};
