@@ -12,3 +12,6 @@ mod top;
 
 pub use status::Status;
 pub use top::drive;
+
+#[cfg(test)]
+mod tests;
