@@ -1,4 +1,4 @@
-ghost use Rattle.std.specs.Prelude.{◌≡◌, ℕ, ◌≤◌, length, take, OnOk, OnErr, IsErrOf};
+ghost use Rattle.std.specs.Prelude.{◌≡◌, ℕ, ◌-◌, ◌^◌, ◌<◌, ◌≤◌, length, take, OnOk, OnErr, IsErrOf};
 ghost use Rattle.std.specs.Io.KnownBytes.{Appends};
 ghost use Rattle.dri_io.specs.Causes.{Rose};
 ghost use Rattle.dri_io.specs.ReadAll.{ReadsAll};
@@ -64,3 +64,9 @@ pub fn write_all<N: Sink>(sink: &mut N, bytes: &[u8]) -> Result<(), WriteFault>
     }
     Ok(())
 }
+
+/// A count that stays the same hasn't risen, unless it stands at a counter's last value. So over `NeverFails` and
+/// `NullSink`, whose counts are the constant 0, no call answers a fault.
+pub fn constant_count_never_rises()
+    ensures { (count : ℕ) → count < 2 ^ 64 - 1 → Rose count count → ⊥ }
+{}
