@@ -7,8 +7,10 @@ use Rattle.dri_base.specs.declared.shape.Point.{Point}
 use Rattle.dri_base.specs.declared.shape.Vertex.{Vertex}
 use Rattle.dri_base.specs.declared.shape.Triangle.{Triangle}
 use Rattle.dri_base.specs.Coverage.{area, centre, corner, covers, edge, is_inside, is_within, quantity, turned, weighed}
+use Rattle.dri_raster.specs.declared.channel.Channel.{Channel}
+use Rattle.dri_raster.specs.declared.channel.Channel.TheVariants.{Z, R, G, B, A, S, T}
 use Rattle.dri_raster.specs.declared.setup.Setup.TheInside.{Inside}
-use Rattle.dri_raster.specs.Channels.{IsBounded, weighed_by}
+use Rattle.dri_raster.specs.Channels.{IsBounded, most, weighed_by}
 use Rattle.dri_raster.specs.Edges.{distance, edges_of}
 use Rattle.dri_raster.specs.Setups.{IsSetUp}
 use Rattle.dri_raster.proofs.Distances.{distance_is}
@@ -59,17 +61,17 @@ pub second_of : (a b : Bool) → (a && b) ≡ true → b ≡ true
 second_of true b h = h
 second_of false b h = cc
 
-sum_bounded : (p q r : ℤ) (i j k : ℕ) → pos 0 ≤ℤ p → pos 0 ≤ℤ q → pos 0 ≤ℤ r → i ≤ 65535 → j ≤ 65535 → k ≤ 65535 → unsigned_abs (((p *ℤ pos i) +ℤ (q *ℤ pos j)) +ℤ (r *ℤ pos k)) ≤ 65535 * unsigned_abs ((p +ℤ q) +ℤ r)
-sum_bounded (pos p) (pos q) (pos r) i j k hp hq hr hi hj hk = omega (arith, mul-le-mul_left p hi, mul-le-mul_left q hj, mul-le-mul_left r hk)
-sum_bounded (negsuc p) q r i j k hp hq hr hi hj hk = absurd hp.le
-sum_bounded (pos p) (negsuc q) r i j k hp hq hr hi hj hk = absurd hq.le
-sum_bounded (pos p) (pos q) (negsuc r) i j k hp hq hr hi hj hk = absurd hr.le
+sum_bounded : (n : ℕ) (p q r : ℤ) (i j k : ℕ) → pos 0 ≤ℤ p → pos 0 ≤ℤ q → pos 0 ≤ℤ r → i ≤ n → j ≤ n → k ≤ n → unsigned_abs (((p *ℤ pos i) +ℤ (q *ℤ pos j)) +ℤ (r *ℤ pos k)) ≤ n * unsigned_abs ((p +ℤ q) +ℤ r)
+sum_bounded n (pos p) (pos q) (pos r) i j k hp hq hr hi hj hk = omega (arith, mul-le-mul_left p hi, mul-le-mul_left q hj, mul-le-mul_left r hk)
+sum_bounded m (negsuc p) q r i j k hp hq hr hi hj hk = absurd hp.le
+sum_bounded m (pos p) (negsuc q) r i j k hp hq hr hi hj hk = absurd hq.le
+sum_bounded m (pos p) (pos q) (negsuc r) i j k hp hq hr hi hj hk = absurd hr.le
 
-sum_by_area : (s d e : ℕ) → s ≤ 65535 * d → d ≡ e → s ≤ e * 65535
-sum_by_area s d e h p = omega arith
+sum_by_area : (n s d e : ℕ) → s ≤ n * d → d ≡ e → s ≤ e * n
+sum_by_area n s d e h p = rw (← p) (omega arith)
 
-pub quantity_bounded : (t : Triangle) (value : Vertex → ℕ) (x y : ℤ) → IsBounded (turned t) value → covers t x y ≡ true → quantity t value x y ≤ 65535
-quantity_bounded t value x y bounded covered =
+pub quantity_bounded : (t : Triangle) (value : Vertex → ℕ) (n : ℕ) (x y : ℤ) → IsBounded (turned t) value n → covers t x y ≡ true → quantity t value x y ≤ n
+quantity_bounded t value n x y bounded covered =
     let u = turned t in
     let p = centre x y in
     let inside = second_of _ (is_inside u p) covered in
@@ -77,9 +79,9 @@ quantity_bounded t value x y bounded covered =
     let others = second_of (is_within (corner u.a) (corner u.b) p) _ inside in
     let bc = first_of (is_within (corner u.b) (corner u.c) p) _ others in
     let ca = second_of (is_within (corner u.b) (corner u.c) p) _ others in
-    let sum = sum_bounded (edge (corner u.b) (corner u.c) p) (edge (corner u.c) (corner u.a) p) (edge (corner u.a) (corner u.b) p) (value u.a) (value u.b) (value u.c) (within_sign _ _ bc) (within_sign _ _ ca) (within_sign _ _ ab) bounded.a bounded.b bounded.c in
+    let sum = sum_bounded n (edge (corner u.b) (corner u.c) p) (edge (corner u.c) (corner u.a) p) (edge (corner u.a) (corner u.b) p) (value u.a) (value u.b) (value u.c) (within_sign _ _ bc) (within_sign _ _ ca) (within_sign _ _ ab) bounded.a bounded.b bounded.c in
     let whole = ap unsigned_abs (edges_add (corner u.a) (corner u.b) (corner u.c) p) ∙ area_turned t in
-    div-le_of_le-mul (unsigned_abs (area t)) (sum_by_area _ _ _ sum whole)
+    div-le_of_le-mul (unsigned_abs (area t)) (sum_by_area n _ _ _ sum whole)
 
 -- twice the area of a triangle that is set up isn't zero
 pub abs_not_zero : (d : ℤ) → d ≢ pos 0 → 0 < unsigned_abs d
@@ -101,5 +103,15 @@ pub quantity_is : (s : Inside) (value : Vertex → ℕ) (x y : ℤ) (sum : ℤ) 
 quantity_is s value x y sum is sum_is =
     ap (λ n. unsigned_abs n / s.area) (sum_is ∙ weighed_is s value x y is) ∙ ap (λ d. unsigned_abs (weighed (turned s.triangle) value (centre x y)) / d) is.area
 
-pub quantity_fits : (s : Inside) (value : Vertex → ℕ) (x y : ℤ) → IsSetUp s → IsBounded s.turned value → covers s.triangle x y ≡ true → quantity s.triangle value x y ≤ 65535
-quantity_fits s value x y is bounded covered = quantity_bounded s.triangle value x y (subst (λ u. IsBounded u value) is.turned bounded) covered
+pub quantity_fits : (s : Inside) (value : Vertex → ℕ) (n : ℕ) (x y : ℤ) → IsSetUp s → IsBounded s.turned value n → covers s.triangle x y ≡ true → quantity s.triangle value x y ≤ n
+quantity_fits s value n x y is bounded covered =
+    quantity_bounded s.triangle value n x y (subst (λ u. IsBounded u value n) is.turned bounded) covered
+
+pub most_is_small : (c : Channel) → most c ≤ 65535
+most_is_small Z = omega arith
+most_is_small R = omega arith
+most_is_small G = omega arith
+most_is_small B = omega arith
+most_is_small A = omega arith
+most_is_small S = omega arith
+most_is_small T = omega arith

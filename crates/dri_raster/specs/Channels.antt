@@ -22,8 +22,18 @@ abbrev pub weighed_by : Edges → Triangle → (Vertex → ℕ) → ℤ → ℤ 
 weighed_by e t value x y =
     ((distance e.bc x y *ℤ pos (value t.a)) +ℤ (distance e.ca x y *ℤ pos (value t.b))) +ℤ (distance e.ab x y *ℤ pos (value t.c))
 
--- a quantity is 0 to 65,535 at each corner
-pub record IsBounded (t : Triangle) (value : Vertex → ℕ) : Type 0 where
-  pub a : value t.a ≤ 65535
-  pub b : value t.b ≤ 65535
-  pub c : value t.c ≤ 65535
+-- the greatest number of a channel
+abbrev pub most : Channel → ℕ
+most Z = 65535
+most R = 255
+most G = 255
+most B = 255
+most A = 255
+most S = 65535
+most T = 65535
+
+-- a quantity is 0 to n at each corner
+pub record IsBounded (t : Triangle) (value : Vertex → ℕ) (n : ℕ) : Type 0 where
+  pub a : value t.a ≤ n
+  pub b : value t.b ≤ n
+  pub c : value t.c ≤ n

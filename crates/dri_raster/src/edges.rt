@@ -2,7 +2,7 @@
 
 ghost use Rattle.std.specs.Prelude.{◌≡◌, ◌≤◌, ◌*ℤ◌, pos};
 ghost use Rattle.dri_base.specs.Ranges.{TriangleInRange};
-ghost use Rattle.dri_raster.specs.Channels.{IsBounded, value_of, weighed_by};
+ghost use Rattle.dri_raster.specs.Channels.{IsBounded, most, value_of, weighed_by};
 ghost use Rattle.dri_raster.specs.Edges.{AreSmallEdges, IsPixel, IsWithin, are_within, edges_of};
 
 use crate::channel::Channel;
@@ -47,7 +47,7 @@ impl Edges {
         requires x { IsPixel x }
         requires y { IsPixel y }
         ensures value { result ≡ weighed_by self.now corners.now (value_of channel) x y }
-        ensures bounded { IsBounded corners.now (value_of channel) }
+        ensures bounded { IsBounded corners.now (value_of channel) (most channel) }
     {
         let a = weight(self.bc.distance(x, y), channel.of(&corners.a));
         let b = weight(self.ca.distance(x, y), channel.of(&corners.b));

@@ -1,9 +1,9 @@
 //! A triangle made ready for its pixels. Where its area is negative the second and the third corner change places, so
 //! that the inner side of every edge is the positive one; the three edges and twice the area are worked out once.
 
-ghost use Rattle.std.specs.Prelude.{◌≡◌, ◌↔◌, IfSome, IsNone, IsTrue, pos};
+ghost use Rattle.std.specs.Prelude.{◌≡◌, ◌≤◌, ◌↔◌, IfSome, IsNone, IsTrue, pos};
 ghost use Rattle.dri_base.specs.Coverage.{area, covers, quantity, turned};
-ghost use Rattle.dri_raster.specs.Channels.{value_of};
+ghost use Rattle.dri_raster.specs.Channels.{most, value_of};
 ghost use Rattle.dri_raster.specs.Edges.{IsPixel, IsWithin};
 ghost use Rattle.dri_raster.specs.Walks.{IsNear, covered_points};
 ghost use Rattle.dri_base.specs.Ranges.{TriangleInRange};
@@ -70,12 +70,14 @@ impl Setup {
     }
 
     /// A channel's quantity at the centre of pixel (x, y), which the triangle covers: the corners' quantities weighed
-    /// by the three edges, divided by twice the area, rounded down. Never beyond the channel's own range.
+    /// by the three edges, divided by twice the area, rounded down: at most 255 for a channel of the colour, at most
+    /// 65,535 for any other.
     pub fn value_at(&self, channel: Channel, x: i32, y: i32) -> u32
         requires x { IsPixel x }
         requires y { IsPixel y }
         requires covered { IsTrue (covers self.now x y) }
-        ensures { result ≡ quantity self.now (value_of channel) x y }
+        ensures value { result ≡ quantity self.now (value_of channel) x y }
+        ensures bounded { result ≤ most channel }
     {
         let sum = self.edges.weighed(&self.turned, channel, x, y);
         (sum.unsigned_abs() / self.area) as u32
