@@ -1,13 +1,11 @@
-// A library with one function.
+//! A client's drawing state with the groups of it that the card has not seen yet, and the words that tell the card.
 #![tactic(auto)]
 
-ghost use Rattle.std.specs.Prelude.{◌≡◌};
-ghost use Rattle.dri_context.specs.Echo.{echo_of};
+mod context;
+mod emit;
+mod groups;
+mod values;
 
-// The `ensures` clause is the contract: what `echo` returns is `echo_of` of its argument, a definition
-// in `specs/Echo.antt`, which a caller's clause can cite too.
-pub fn echo(x: usize) -> usize
-    ensures { result ≡ echo_of x }
-{
-    x
-}
+pub use context::ContextState;
+pub use emit::EmitWords;
+pub use groups::Groups;
