@@ -50,28 +50,31 @@ wrap_back (suc (suc n)) small = absurd (omega (arith, small))
 halved : (w : ℕ) → halves (w % 65536) (w / 65536) ≡ w
 halved w = omega arith
 
+zeros : (a b : ℕ) → a ≡ 0 → b ≡ 0 → 0 ∷ 0 ∷ 0 ∷ [] ≡ 0 ∷ a ∷ b ∷ []
+zeros a b p q = rw (p, q) refl
+
 -- the bound texture of three words that fit has these words, and is in range
 pub bound_back : (f b s : ℕ) → f < 3 → fits_bound 2 f b ≡ true → fits_bound 3 f s ≡ true → (bound_words (bound_of f b s) ≡ f ∷ b ∷ s ∷ []) × IsBoundInRange (bound_of f b s)
-bound_back zero b s small second third = (λ i. 0 ∷ (eqb-true b 0 second) (~ i) ∷ (eqb-true s 0 third) (~ i) ∷ [], tt)
+bound_back zero b s small second third = (zeros b s (eqb-true b 0 second) (eqb-true s 0 third), tt)
 bound_back (suc zero) b s small second third =
     let sides = and_parts (is_side (s % 65536)) (is_side (s / 65536)) third in
     let width = and_parts (nat_le 1 (s % 65536)) (nat_le (s % 65536) 256) sides.0 in
     let height = and_parts (nat_le 1 (s / 65536)) (nat_le (s / 65536) 256) sides.1 in
-    (ap (λ n. 1 ∷ b ∷ n ∷ []) (halved s), (leb-true 1 (s % 65536) width.0, leb-true (s % 65536) 256 width.1), (leb-true 1 (s / 65536) height.0, leb-true (s / 65536) 256 height.1))
+    (ap (λ n. 1 ∷ b ∷ n ∷ []) (halved s), ((leb-true 1 (s % 65536) width.0, leb-true (s % 65536) 256 width.1), (leb-true 1 (s / 65536) height.0, leb-true (s / 65536) 256 height.1)))
 bound_back (suc (suc zero)) b s small second third =
     let sides = and_parts (is_side (s % 65536)) (is_side (s / 65536)) third in
     let width = and_parts (nat_le 1 (s % 65536)) (nat_le (s % 65536) 256) sides.0 in
     let height = and_parts (nat_le 1 (s / 65536)) (nat_le (s / 65536) 256) sides.1 in
-    (ap (λ n. 2 ∷ b ∷ n ∷ []) (halved s), (leb-true 1 (s % 65536) width.0, leb-true (s % 65536) 256 width.1), (leb-true 1 (s / 65536) height.0, leb-true (s / 65536) 256 height.1))
+    (ap (λ n. 2 ∷ b ∷ n ∷ []) (halved s), ((leb-true 1 (s % 65536) width.0, leb-true (s % 65536) 256 width.1), (leb-true 1 (s / 65536) height.0, leb-true (s / 65536) 256 height.1)))
 bound_back (suc (suc (suc n))) b s small second third = absurd (omega (arith, small))
 
 pub scissor_back : (f u l : ℕ) → f < 2 → fits_scissor 2 f u ≡ true → fits_scissor 3 f l ≡ true → (scissor_words (scissor_of f u l) ≡ f ∷ u ∷ l ∷ []) × IsScissorInRange (scissor_of f u l)
-scissor_back zero u l small second third = (λ i. 0 ∷ (eqb-true u 0 second) (~ i) ∷ (eqb-true l 0 third) (~ i) ∷ [], tt)
+scissor_back zero u l small second third = (zeros u l (eqb-true u 0 second) (eqb-true l 0 third), tt)
 scissor_back (suc zero) u l small second third =
     let upper = and_parts (nat_le (u % 65536) 2048) (nat_le (u / 65536) 2048) second in
     let lower = and_parts (nat_le (l % 65536) 2048) (nat_le (l / 65536) 2048) third in
     (ap (λ n. 1 ∷ n ∷ halves (l % 65536) (l / 65536) ∷ []) (halved u) ∙ ap (λ n. 1 ∷ u ∷ n ∷ []) (halved l),
-     (leb-true (u % 65536) 2048 upper.0, leb-true (u / 65536) 2048 upper.1), (leb-true (l % 65536) 2048 lower.0, leb-true (l / 65536) 2048 lower.1))
+     ((leb-true (u % 65536) 2048 upper.0, leb-true (u / 65536) 2048 upper.1), (leb-true (l % 65536) 2048 lower.0, leb-true (l / 65536) 2048 lower.1)))
 scissor_back (suc (suc n)) u l small second third = absurd (omega (arith, small))
 
 -- the sides of a bound texture fit, and the corners of a scissor
