@@ -1,5 +1,5 @@
 -- Words that spell some groups are taken to their end.
-use Rattle.std.proofs.Common.{◌≡◌, ℕ, ◌+◌, ◌-◌, ◌/◌, ◌%◌, ◌<◌, ◌≤◌, List, [], ◌∷◌, ◌++◌, Option, Some, None, Bool, true, false, ◌&&◌, nat_le, if◌then◌else◌, refl, sym, ap, ◌∙◌, arith}
+use Rattle.std.proofs.Common.{◌≡◌, ℕ, ◌+◌, ◌-◌, ◌/◌, ◌%◌, ◌≤◌, List, [], ◌∷◌, ◌++◌, Option, Some, None, Bool, true, false, ◌&&◌, nat_le, refl, ap, ◌∙◌, arith}
 use Rattle.std.proofs.lemmas.Bool.{cond-true, and_from, le-leb}
 use Rattle.dri_base.specs.declared.state.Registers.{Registers}
 use Rattle.dri_base.specs.declared.state.Shade.{Shade}
@@ -18,9 +18,9 @@ use Rattle.dri_base.specs.declared.texture.TexFormat.TheVariants.{L8, Rgb565}
 use Rattle.dri_base.specs.declared.shape.ClipRect.{ClipRect}
 use Rattle.dri_model.specs.Groups.{Groups, shade_word, depth_word, flag_word, blend_word, mode_word, wrap_word}
 use Rattle.dri_model.specs.Words.{format_word, halves, group_words, bound_words, scissor_words, IsBoundInRange, IsScissorInRange, Spelled}
-use Rattle.dri_context.specs.Reading.{Reader, is_side, run, opened, shade_of, depth_of, blend_of, mode_of, wrap_of, bound_of, scissor_of, word_taken}
+use Rattle.dri_context.specs.Reading.{Reader, is_side, run, opened, depth_of, bound_of, scissor_of}
 use Rattle.dri_context.proofs.Numbers.{sides_fit, corner_fits}
-use Rattle.dri_context.proofs.Accepted.{between, within, from0, from1, from2, from3, from4, from5, from6}
+use Rattle.dri_context.proofs.Accepted.{between, within, from1, from2, from3, from4, from5, from6}
 
 -- a header of a group that may come
 header_ok : (j k : ℕ) (r : Registers) (f s : ℕ) (ws : List ℕ) → j ≤ k → k ≤ 6 → run (Some (between j r f s)) ((0x52000000 + k) ∷ ws) ≡ run (Some (within k r f s)) ws
@@ -28,8 +28,8 @@ header_ok j k r f s ws may last =
     let w : ℕ = 0x52000000 + k in
     let number : w - 0x52000000 ≡ k = omega arith in
     ap (λ o. run o ws) (cond-true (nat_le (0x52000000 + j) w && nat_le w 0x52000006) (Some (record { registers = r; group = w - 0x52000000; at = 1; first = f; second = s })) None
-      (and_from (nat_le (0x52000000 + j) w) (nat_le w 0x52000006) (le-leb (0x52000000 + j) w (omega arith)) (le-leb w 0x52000006 (omega arith))))
-      ∙ ap (λ n. run (Some (record { registers = r; group = n; at = 1; first = f; second = s })) ws) number
+    (and_from (nat_le (0x52000000 + j) w) (nat_le w 0x52000006) (le-leb (0x52000000 + j) w (omega arith)) (le-leb w 0x52000006 (omega arith))))
+    ∙ ap (λ n. run (Some (record { registers = r; group = n; at = 1; first = f; second = s })) ws) number
 
 -- the words of a group's value
 shade_read : (v : Shade) (r : Registers) (f s : ℕ) (ws : List ℕ) → run (Some (within 0 r f s)) (shade_word v ∷ ws) ≡ run (Some (between 1 (record r { shade = v }) f s)) ws
@@ -86,9 +86,12 @@ along o p e ends = record { reader = ends.reader; comes = e ∙ ends.comes; done
 
 bound_taken : (b : Option BoundTexture) → IsBoundInRange b → (r : Registers) (f s : ℕ) (ws : List ℕ) → (r' : Registers) × (f' : ℕ) × (s' : ℕ) × (run (Some (within 5 r f s)) (bound_words b ++ ws) ≡ run (Some (between 6 r' f' s')) ws)
 bound_taken None range r f s ws = (record r { bound = None }, 0, 0, refl)
-bound_taken (Some b) range r f s ws =
-    (record r { bound = bound_of (format_word b.shape.format) b.base (halves b.shape.width b.shape.height) }, format_word b.shape.format, b.base,
-     format_read b.shape.format b.base r f s (halves b.shape.width b.shape.height ∷ ws) ∙ sides_read b.shape.format b.shape.width b.shape.height r b.base ws range.0.0 range.0.1 range.1.0 range.1.1)
+bound_taken (Some b) range r f s ws = (
+  record r { bound = bound_of (format_word b.shape.format) b.base (halves b.shape.width b.shape.height) },
+  format_word b.shape.format,
+  b.base,
+  format_read b.shape.format b.base r f s (halves b.shape.width b.shape.height ∷ ws) ∙ sides_read b.shape.format b.shape.width b.shape.height r b.base ws range.0.0 range.0.1 range.1.0 range.1.1,
+)
 
 scissor_taken : (c : Option ClipRect) → IsScissorInRange c → (r : Registers) (f s : ℕ) → Ends (run (Some (within 6 r f s)) (scissor_words c))
 scissor_taken None range r f s = record { reader = between 7 (record r { scissor = None }) 0 0; comes = refl; done = refl }
@@ -100,7 +103,7 @@ scissor_taken (Some c) range r f s =
     record {
       reader = end;
       comes = ap (λ o. run o (lower ∷ [])) (cond-true (nat_le (upper % 65536) 2048 && nat_le (upper / 65536) 2048) (Some third) None (corner_fits c.x1 c.y1 range.0.0 range.0.1))
-        ∙ ap (λ o. run o []) (cond-true (nat_le (lower % 65536) 2048 && nat_le (lower / 65536) 2048) (Some end) None (corner_fits c.x2 c.y2 range.1.0 range.1.1));
+          ∙ ap (λ o. run o []) (cond-true (nat_le (lower % 65536) 2048 && nat_le (lower / 65536) 2048) (Some end) None (corner_fits c.x2 c.y2 range.1.0 range.1.1));
       done = refl;
     }
 
@@ -131,7 +134,7 @@ complete1 false g v j r f s bound scissor may = complete2 g.blend g v j r f s bo
 complete1 true g v j r f s bound scissor may =
     let d : ℕ = depth_word v.depth_func in
     along _ _ (header_ok j 1 r f s (d ∷ flag_word v.depth_write ∷ from2 g v) may (omega arith) ∙ depth_read v.depth_func r f s (flag_word v.depth_write ∷ from2 g v) ∙ flag_read v.depth_write r d s (from2 g v))
-      (complete2 g.blend g v 2 (record r { depth_func = depth_of d; depth_write = v.depth_write }) d s bound scissor (omega arith))
+    (complete2 g.blend g v 2 (record r { depth_func = depth_of d; depth_write = v.depth_write }) d s bound scissor (omega arith))
 
 complete0 : (named : Bool) (g : Groups) (v : Registers) (r : Registers) (f s : ℕ) → IsBoundInRange v.bound → IsScissorInRange v.scissor → Ends (run (Some (between 0 r f s)) (group_words named 0 (shade_word v.shade ∷ []) ++ from1 g v))
 complete0 false g v r f s bound scissor = complete1 g.depth g v 0 r f s bound scissor (omega arith)

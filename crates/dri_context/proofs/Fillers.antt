@@ -1,5 +1,5 @@
 -- Words that a reader has taken begin some register words, and where it takes no more they go wrong.
-use Rattle.std.proofs.Common.{◌≡◌, ℕ, zero, suc, ◌+◌, ◌-◌, ◌/◌, ◌%◌, ◌<◌, ◌≤◌, List, [], ◌∷◌, ◌++◌, length, get_or, take, Option, Some, None, Bool, true, false, ◌==◌, ◌&&◌, ◌||◌, nat_le, if◌then◌else◌, refl, sym, ap, ◌∙◌, arith}
+use Rattle.std.proofs.Common.{◌≡◌, ℕ, zero, suc, ◌+◌, ◌/◌, ◌%◌, ◌<◌, ◌≤◌, List, [], ◌∷◌, ◌++◌, length, get_or, take, Some, None, Bool, true, false, ◌==◌, ◌&&◌, ◌||◌, if◌then◌else◌, refl, sym, ap, ◌∙◌, arith}
 use Rattle.std.proofs.lemmas.Bool.{cond-true}
 use Rattle.std.proofs.lemmas.Option.{slice_get-get_or}
 use Rattle.dri_base.specs.declared.state.Registers.{Registers}
@@ -119,8 +119,8 @@ wrong_word old words at r within ran is none = record {
   there = slice_get-get_or words at 0 within;
   before = begun old (take at words) r ran is;
   wrong = λ b.
-    let t = complete old (take (at + 1) words ++ b.0) b.1 in
-    none_some t.0 (sym (run-append (Some (opened old)) (take (at + 1) words) b.0 ∙ ap (λ o. run o b.0) (run_more (Some (opened old)) words at r within ran ∙ none) ∙ run_none b.0) ∙ t.1);
+      let t = complete old (take (at + 1) words ++ b.0) b.1 in
+      none_some t.0 (sym (run-append (Some (opened old)) (take (at + 1) words) b.0 ∙ ap (λ o. run o b.0) (run_more (Some (opened old)) words at r within ran ∙ none) ∙ run_none b.0) ∙ t.1);
 }
 
 pub cut_short : (old : Registers) (words : List ℕ) (r : Reader) → run (Some (opened old)) words ≡ Some r → IsReader r → (r.at ≡ 0 → ⊥) → IsCutShort Spelled words (length words) 0

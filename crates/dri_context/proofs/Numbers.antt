@@ -1,13 +1,9 @@
 -- The values of words, and the words of values.
-use Rattle.std.proofs.Common.{◌≡◌, ℕ, zero, suc, ◌+◌, ◌*◌, ◌/◌, ◌%◌, ◌<◌, ◌≤◌, List, [], ◌∷◌, Option, Some, None, Bool, true, false, ◌==◌, ◌&&◌, nat_lt, nat_le, if◌then◌else◌, refl, sym, ap, ◌∙◌, inl, inr, arith}
-use Rattle.std.proofs.lemmas.Bool.{cases_eq, eq-eqb, ne_eqb, cond-true, cond-false, ltb-true, leb-true, eqb-true, and_parts, and_from, le-leb, lt-ltb}
-use Rattle.dri_base.specs.declared.texture.BoundTexture.{BoundTexture}
-use Rattle.dri_base.specs.declared.texture.TexFormat.{TexFormat}
-use Rattle.dri_base.specs.declared.texture.TexFormat.TheVariants.{L8, Rgb565}
-use Rattle.dri_base.specs.declared.shape.ClipRect.{ClipRect}
+use Rattle.std.proofs.Common.{◌≡◌, ℕ, zero, suc, ◌/◌, ◌%◌, ◌<◌, ◌≤◌, [], ◌∷◌, true, ◌==◌, ◌&&◌, nat_le, refl, ap, ◌∙◌, arith}
+use Rattle.std.proofs.lemmas.Bool.{leb-true, eqb-true, and_parts, and_from, le-leb}
 use Rattle.dri_model.specs.Groups.{shade_word, depth_word, blend_word, mode_word, wrap_word, flag_word}
-use Rattle.dri_model.specs.Words.{format_word, halves, bound_words, scissor_words, IsBoundInRange, IsScissorInRange}
-use Rattle.dri_context.specs.Reading.{shade_of, depth_of, blend_of, mode_of, wrap_of, format_of, bound_of, scissor_of, is_side, fits_bound, fits_scissor}
+use Rattle.dri_model.specs.Words.{halves, bound_words, scissor_words, IsBoundInRange, IsScissorInRange}
+use Rattle.dri_context.specs.Reading.{shade_of, depth_of, blend_of, mode_of, wrap_of, bound_of, scissor_of, is_side, fits_bound, fits_scissor}
 
 pub shade_back : (w : ℕ) → w < 2 → shade_word (shade_of w) ≡ w
 shade_back zero small = refl
@@ -72,9 +68,10 @@ pub scissor_back : (f u l : ℕ) → f < 2 → fits_scissor 2 f u ≡ true → f
 scissor_back zero u l small second third = (zeros u l (eqb-true u 0 second) (eqb-true l 0 third), tt)
 scissor_back (suc zero) u l small second third =
     let upper = and_parts (nat_le (u % 65536) 2048) (nat_le (u / 65536) 2048) second in
-    let lower = and_parts (nat_le (l % 65536) 2048) (nat_le (l / 65536) 2048) third in
-    (ap (λ n. 1 ∷ n ∷ halves (l % 65536) (l / 65536) ∷ []) (halved u) ∙ ap (λ n. 1 ∷ u ∷ n ∷ []) (halved l),
-     ((leb-true (u % 65536) 2048 upper.0, leb-true (u / 65536) 2048 upper.1), (leb-true (l % 65536) 2048 lower.0, leb-true (l / 65536) 2048 lower.1)))
+    let lower = and_parts (nat_le (l % 65536) 2048) (nat_le (l / 65536) 2048) third in (
+      ap (λ n. 1 ∷ n ∷ halves (l % 65536) (l / 65536) ∷ []) (halved u) ∙ ap (λ n. 1 ∷ u ∷ n ∷ []) (halved l),
+      ((leb-true (u % 65536) 2048 upper.0, leb-true (u / 65536) 2048 upper.1), (leb-true (l % 65536) 2048 lower.0, leb-true (l / 65536) 2048 lower.1)),
+    )
 scissor_back (suc (suc n)) u l small second third = absurd (omega (arith, small))
 
 -- the sides of a bound texture fit, and the corners of a scissor

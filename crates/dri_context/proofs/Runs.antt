@@ -38,6 +38,6 @@ word_step r e (v ∷ rest) within ran =
     let next : Option Reader = if fit then Some (word_taken r v) else None in
     let inside : run next rest ≡ Some e = sym (ap (λ o. run o rest) (cond-false (r.at == 0) (header_read r v) next within)) ∙ ran in
     elim (cases_Bool fit) as (λ _. (r ≡ e) ⊎ ((w : ℕ) × (more : List ℕ) × (v ∷ rest ≡ w ∷ more) × (fits r.group r.at r.first w ≡ true) × (run (Some (word_taken r w)) more ≡ Some e))) [
-        inl told ↦ inr (v, rest, refl, told, sym (ap (λ o. run o rest) (cond-true fit (Some (word_taken r v)) None told)) ∙ inside)
+      | inl told ↦ inr (v, rest, refl, told, sym (ap (λ o. run o rest) (cond-true fit (Some (word_taken r v)) None told)) ∙ inside)
       | inr other ↦ absurd (none_some e (sym (ap (λ o. run o rest) (cond-false fit (Some (word_taken r v)) None other)) ∙ inside))
     ]

@@ -5,8 +5,7 @@ ghost use Rattle.dri_model.specs.Words.{emitted_words, group_words, IsBoundInRan
 
 use crate::groups::Groups;
 use crate::values::{
-    blend_word, bound_words, depth_word, flag_word, mode_word, scissor_words, shade_word,
-    wrap_word,
+    blend_word, bound_words, depth_word, flag_word, mode_word, scissor_words, shade_word, wrap_word,
 };
 use dri_base::{BoundTexture, State};
 use std::marker::Model;

@@ -76,8 +76,7 @@ impl Groups {
     {
         !self.shade
             && (!self.depth
-                && (!self.blend
-                    && (!self.mode && (!self.wrap && (!self.bound && !self.scissor)))))
+                && (!self.blend && (!self.mode && (!self.wrap && (!self.bound && !self.scissor)))))
     }
 
     // The set with the bound texture's group.

@@ -6,6 +6,8 @@ mod context;
 mod emit;
 mod groups;
 mod reader;
+#[cfg(test)]
+mod tests;
 mod values;
 
 pub use apply::{BadWord, TakeWords};

@@ -178,13 +178,7 @@ fn fits(group: u32, at: u32, first: u32, word: u32) -> bool
 }
 
 // The registers with a group's words.
-fn with_group(
-    registers: Registers,
-    group: u32,
-    first: u32,
-    second: u32,
-    word: u32,
-) -> Registers
+fn with_group(registers: Registers, group: u32, first: u32, second: u32, word: u32) -> Registers
     ensures { result ≡ with_group group first second word registers }
 {
     match group {

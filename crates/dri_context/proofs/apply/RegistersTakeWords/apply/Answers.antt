@@ -1,8 +1,7 @@
-use Rattle.std.proofs.Common.{◌≡◌, ℕ, ◌+◌, ◌*◌, ◌≤◌, Some, None, List, length, take, refl, sym, ap, ◌∙◌, inl, inr, arith}
+use Rattle.std.proofs.Common.{◌≡◌, ℕ, ◌≤◌, Some, List, length, take, refl, sym, ap, ◌∙◌, inl, inr, arith}
 use Rattle.std.proofs.lemmas.List.{take_all}
 use Rattle.dri_base.specs.declared.state.Registers.{Registers}
-use Rattle.dri_model.specs.Words.{Spelled, loaded}
-use Rattle.dri_model.specs.WordFaults.{IsBadWord}
+use Rattle.dri_model.specs.Words.{Spelled}
 use Rattle.dri_model.proofs.Faults.{no_fault}
 use Rattle.dri_model.proofs.Spelling.{spelled_once}
 use Rattle.dri_context.specs.Reading.{opened, run, Reader}
