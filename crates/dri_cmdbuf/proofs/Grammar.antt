@@ -1,14 +1,13 @@
 -- A buffer's words are thirteen for each triangle, and each can stand at its place.
-use Rattle.std.proofs.Common.{◌≡◌, ℕ, zero, suc, ◌+◌, ◌-◌, ◌*◌, ◌/◌, ◌%◌, ◌<◌, ◌≤◌, List, [], ◌∷◌, ◌++◌, length, map, get_or, take, drop, Bool, true, false, nat_le, refl, sym, ap, subst, ◌∙◌, inl, inr, arith}
+use Rattle.std.proofs.Common.{◌≡◌, ℕ, zero, suc, ◌+◌, ◌-◌, ◌*◌, ◌/◌, ◌%◌, ◌<◌, ◌≤◌, List, [], ◌∷◌, ◌++◌, length, map, get_or, take, drop, true, refl, sym, ap, subst, ◌∙◌, inl, inr, arith}
 use Rattle.std.specs.List.{range_with_len, All}
-use Rattle.std.proofs.lemmas.List.{get_or-append-add, drop_more, append_assoc, append-nil, take_all, length-append}
+use Rattle.std.proofs.lemmas.List.{get_or-append-add, drop_more, append-nil, take_all, length-append}
 use Rattle.std.proofs.lemmas.List.FromFn.{map-range_with_len_more, get_or-map-range_with_len, length-map-range_with_len}
 use Rattle.std.proofs.lemmas.Bool.{cases_lt, leb-true, le-leb, eqb-true}
-use Rattle.std.proofs.lemmas.Nat.{mod-mul-add, div-mul-add}
+use Rattle.std.proofs.lemmas.Nat.{mod-mul-add}
 use Rattle.std.proofs.Math.Nat.{add-mod_left, mod-eq_of_lt}
 use Rattle.std.proofs.Math.Seq.{take-add}
 use Rattle.dri_base.specs.declared.shape.Triangle.{Triangle}
-use Rattle.dri_base.specs.declared.shape.Vertex.{Vertex}
 use Rattle.dri_model.specs.CommandWords.{vertex_words, triangle_words, buffer_words, IsVertex, IsTriangle, Buffer}
 use Rattle.dri_cmdbuf.specs.Decoding.{is_good, vertex_of, triangle_of, triangles_of, IsWhole}
 use Rattle.dri_cmdbuf.proofs.Halves.{halved, low_of, coordinate_inside, coloured, colour_inside}

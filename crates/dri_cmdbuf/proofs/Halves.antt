@@ -1,9 +1,8 @@
 -- Words of sixteen and eight bits, there and back.
-use Rattle.std.proofs.Common.{◌≡◌, ℕ, ◌+◌, ◌-◌, ◌*◌, ◌/◌, ◌%◌, ◌<◌, ◌≤◌, Bool, true, false, ℤ, pos, negsuc, ◌+ℤ◌, ◌-ℤ◌, nat_abs, int_lt, int_le, nat_lt, if◌then◌else◌, refl, sym, ap, ◌∙◌, inl, inr, arith}
+use Rattle.std.proofs.Common.{◌≡◌, ℕ, ◌+◌, ◌-◌, ◌*◌, ◌/◌, ◌%◌, ◌<◌, ◌≤◌, ℤ, pos, negsuc, ◌+ℤ◌, ◌-ℤ◌, nat_abs, int_lt, nat_lt, ap, ◌∙◌, inl, inr, arith}
 use Rattle.std.proofs.lemmas.Int.{ints}
 use Rattle.std.proofs.lemmas.Bool.{cases_lt, lt-ltb, le-ltb, cond-true, cond-false}
 use Rattle.std.proofs.Math.Nat.{div-div-eq-div-mul}
-use Rattle.dri_base.specs.declared.colour.Rgba.{Rgba}
 use Rattle.dri_model.specs.Words.{halves}
 use Rattle.dri_model.specs.CommandWords.{low_half, colour_word, IsCoordinate, IsColour}
 use Rattle.dri_cmdbuf.specs.Decoding.{coordinate_of, colour_of}

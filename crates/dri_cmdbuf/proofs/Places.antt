@@ -1,11 +1,10 @@
 -- Where words go wrong.
-use Rattle.std.proofs.Common.{◌≡◌, ℕ, zero, suc, ◌+◌, ◌-◌, ◌*◌, ◌/◌, ◌%◌, ◌<◌, ◌≤◌, List, [], ◌∷◌, ◌++◌, length, get_or, take, replicate, slice_get, Some, Bool, true, false, ◌==◌, ◌||◌, if◌then◌else◌, refl, sym, ap, subst, ◌∙◌, inl, inr, arith, ◌⊎◌}
+use Rattle.std.proofs.Common.{◌≡◌, ℕ, ◌+◌, ◌-◌, ◌%◌, ◌<◌, ◌≤◌, List, ◌++◌, length, get_or, take, replicate, Bool, true, false, ◌==◌, ◌||◌, if◌then◌else◌, refl, ap, subst, ◌∙◌, inl, inr, arith}
 use Rattle.std.proofs.lemmas.List.{get_or_append_left, get_or-append_right, get_or-take, get_or-replicate, length-append, length-replicate, length-take-le}
-use Rattle.std.proofs.lemmas.Bool.{cases_lt, cases_eq, both_ways, ne_eqb, cond-false}
+use Rattle.std.proofs.lemmas.Bool.{cases_lt, both_ways, ne_eqb, cond-false}
 use Rattle.std.proofs.lemmas.Option.{slice_get-get_or}
-use Rattle.std.proofs.lemmas.Nat.{mod-mul-add}
-use Rattle.dri_model.specs.CommandWords.{Buffer, buffer_words}
-use Rattle.dri_model.specs.WordFaults.{Begins, IsWrongWord, IsCutShort, IsBadWord}
+use Rattle.dri_model.specs.CommandWords.{Buffer}
+use Rattle.dri_model.specs.WordFaults.{Begins, IsWrongWord, IsCutShort}
 use Rattle.dri_cmdbuf.specs.Decoding.{is_good, IsWhole}
 use Rattle.dri_cmdbuf.proofs.Grammar.{whole_buffer, buffer_good, buffer_thirteens}
 

@@ -1,10 +1,16 @@
 //! A buffer that is full, and words that go wrong one after another.
 
+ghost use Rattle.dri_model.specs.CommandWords.{IsCoordinate, IsVertex, IsTriangle};
+
 use crate::{BadWord, Buffer, BufferFull, decode};
 use dri_base::{Rgba, Triangle, Vertex};
 
 /// A vertex whose quantities are all different.
-fn vertex(x: i32, y: i32) -> Vertex {
+fn vertex(x: i32, y: i32) -> Vertex
+    requires x { IsCoordinate x }
+    requires y { IsCoordinate y }
+    ensures { IsVertex result }
+{
     Vertex {
         x,
         y,
@@ -21,7 +27,9 @@ fn vertex(x: i32, y: i32) -> Vertex {
 }
 
 /// A triangle with negative coordinates.
-fn triangle() -> Triangle {
+fn triangle() -> Triangle
+    ensures { IsTriangle result }
+{
     Triangle {
         a: vertex(-32_768, -1),
         b: vertex(32_767, 0),
@@ -42,9 +50,13 @@ fn fills_and_reads_back(rt: HostRuntime) {
     assert_eq!(rt; buffer.push_word(7), Err(BufferFull { need: 1, have: 0 }));
     buffer.clear();
     assert!(rt; buffer.push_triangle(&triangle()).is_ok());
-    let read = decode(buffer.words()).unwrap_or_else(|_| panic!(&rt; "the words are a buffer"));
-    assert_eq!(rt; read.len(), 1);
-    assert!(rt; read.triangle(0) == triangle());
+    match decode(buffer.words()) {
+        Ok(read) => {
+            assert_eq!(rt; read.len(), 1);
+            assert!(rt; read.triangle(0) == triangle());
+        }
+        Err(_) => assert!(rt; false),
+    }
 }
 
 #[test]

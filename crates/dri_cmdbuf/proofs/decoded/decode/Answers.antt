@@ -1,4 +1,4 @@
-use Rattle.std.proofs.Common.{◌≡◌, ◌<◌, ◌%◌, ◌∙◌, sym, inl, inr, length, get_or, Ok, ap, subst, arith}
+use Rattle.std.proofs.Common.{◌<◌, ◌%◌, ◌∙◌, sym, inl, inr, length, get_or, Ok, ap, subst, arith}
 use Rattle.dri_cmdbuf.specs.Decoding.{is_good, triangles_of, IsWhole}
 use Rattle.dri_cmdbuf.proofs.Grammar.{whole_inside, whole_spells, buffer_good, buffer_thirteens}
 use Rattle.std.proofs.lemmas.Bool.{both_ways}

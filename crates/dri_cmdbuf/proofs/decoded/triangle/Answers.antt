@@ -1,4 +1,4 @@
-use Rattle.std.proofs.Common.{◌≡◌, ◌+◌, ◌*◌, ◌≤◌, length, arith}
+use Rattle.std.proofs.Common.{◌≡◌, ◌+◌, ◌*◌, length, arith}
 use Rattle.dri_cmdbuf.proofs.Grammar.{depth_c, inside}
 use Rattle.dri_cmdbuf.proofs.decoded.triangle.Goals as goal
 

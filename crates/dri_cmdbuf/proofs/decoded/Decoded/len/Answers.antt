@@ -1,4 +1,4 @@
-use Rattle.std.proofs.Common.{◌≡◌, ◌/◌, ◌∙◌, sym, ap, length}
+use Rattle.std.proofs.Common.{◌/◌, ◌∙◌, sym, ap, length}
 use Rattle.std.proofs.lemmas.List.FromFn.{length-map-range_with_len}
 use Rattle.dri_cmdbuf.specs.Decoding.{triangle_of}
 use Rattle.dri_cmdbuf.proofs.decoded.Decoded.len.Goals as goal

@@ -1,4 +1,4 @@
-use Rattle.std.proofs.Common.{◌≡◌, ◌<◌, ◌/◌, ◌∙◌, sym, ap, subst, length, Some, slice_get, arith}
+use Rattle.std.proofs.Common.{◌<◌, ◌/◌, ◌∙◌, sym, ap, subst, length, Some, slice_get, arith}
 use Rattle.std.proofs.lemmas.List.FromFn.{length-map-range_with_len, get_or-map-range_with_len}
 use Rattle.std.proofs.lemmas.Option.{slice_get-get_or}
 use Rattle.dri_cmdbuf.specs.Decoding.{triangle_of, triangles_of}

@@ -1,0 +1,5 @@
+pub mod Runs
+pub mod Numbers
+pub mod Accepted
+pub mod Complete
+pub mod Fillers

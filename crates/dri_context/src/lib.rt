@@ -1,0 +1,16 @@
+//! A client's drawing state with the groups of it that the card has not seen yet, and the words that tell the card.
+#![tactic(auto)]
+
+mod apply;
+mod context;
+mod emit;
+mod groups;
+mod reader;
+#[cfg(test)]
+mod tests;
+mod values;
+
+pub use apply::{BadWord, TakeWords};
+pub use context::ContextState;
+pub use emit::EmitWords;
+pub use groups::Groups;
