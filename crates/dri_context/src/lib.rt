@@ -5,6 +5,7 @@ mod apply;
 mod context;
 mod emit;
 mod groups;
+mod law;
 mod reader;
 #[cfg(test)]
 mod tests;
@@ -14,3 +15,4 @@ pub use apply::{BadWord, TakeWords};
 pub use context::ContextState;
 pub use emit::EmitWords;
 pub use groups::Groups;
+pub use law::emitted_words_are_taken;
