@@ -102,8 +102,8 @@ scissor_taken (Some c) range r f s =
     let end : Reader = between 7 (record r { scissor = scissor_of 1 upper lower }) 1 upper in
     record {
       reader = end;
-      comes = ap (λ o. run o (lower ∷ [])) (cond-true (nat_le (upper % 65536) 2048 && nat_le (upper / 65536) 2048) (Some third) None (corner_fits c.x1 c.y1 range.0.0 range.0.1))
-          ∙ ap (λ o. run o []) (cond-true (nat_le (lower % 65536) 2048 && nat_le (lower / 65536) 2048) (Some end) None (corner_fits c.x2 c.y2 range.1.0 range.1.1));
+      comes = ap (λ o. run o (lower ∷ [])) (cond-true (nat_le (upper % 65536) 2048 && nat_le (upper / 65536) 2048) (Some third) None (corner_fits c.x1 c.y1 range.left range.top))
+          ∙ ap (λ o. run o []) (cond-true (nat_le (lower % 65536) 2048 && nat_le (lower / 65536) 2048) (Some end) None (corner_fits c.x2 c.y2 range.right range.bottom));
       done = refl;
     }
 

@@ -70,7 +70,7 @@ scissor_back (suc zero) u l small second third =
     let upper = and_parts (nat_le (u % 65536) 2048) (nat_le (u / 65536) 2048) second in
     let lower = and_parts (nat_le (l % 65536) 2048) (nat_le (l / 65536) 2048) third in (
       ap (λ n. 1 ∷ n ∷ halves (l % 65536) (l / 65536) ∷ []) (halved u) ∙ ap (λ n. 1 ∷ u ∷ n ∷ []) (halved l),
-      ((leb-true (u % 65536) 2048 upper.0, leb-true (u / 65536) 2048 upper.1), (leb-true (l % 65536) 2048 lower.0, leb-true (l / 65536) 2048 lower.1)),
+      record { left = leb-true (u % 65536) 2048 upper.0; top = leb-true (u / 65536) 2048 upper.1; right = leb-true (l % 65536) 2048 lower.0; bottom = leb-true (l / 65536) 2048 lower.1 },
     )
 scissor_back (suc (suc n)) u l small second third = absurd (omega (arith, small))
 
