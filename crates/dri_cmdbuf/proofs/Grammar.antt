@@ -56,8 +56,7 @@ vertex_inside words i small within depth =
     let third : get_or words (i + 2) 0 < 4294967296 = small (i + 2) (omega arith) in
     let last : get_or words (i + 3) 0 < 4294967296 = small (i + 3) (omega arith) in
     record {
-      x = coordinate_inside (get_or words i 0 % 65536) (omega arith);
-      y = coordinate_inside (get_or words i 0 / 65536) (omega arith);
+      place = (coordinate_inside (get_or words i 0 % 65536) (omega arith), coordinate_inside (get_or words i 0 / 65536) (omega arith));
       z = depth;
       colour = colour_inside (get_or words (i + 2) 0) third;
       s = omega arith;

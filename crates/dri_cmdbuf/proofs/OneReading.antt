@@ -55,16 +55,16 @@ vertex_one v u p q e = λ k. record { x = x k; y = y k; z = second.0 k; colour =
     last = (cons_same _ _ _ _ third.1).0
 
     low_x : low_half v.x ≡ low_half u.x
-    low_x = omega (arith, first.0, low_small v.x p.x, low_small u.x q.x)
+    low_x = omega (arith, first.0, low_small v.x p.place.0, low_small u.x q.place.0)
 
     low_y : low_half v.y ≡ low_half u.y
-    low_y = omega (arith, first.0, low_small v.x p.x, low_small u.x q.x)
+    low_y = omega (arith, first.0, low_small v.x p.place.0, low_small u.x q.place.0)
 
     x : v.x ≡ u.x
-    x = sym (coordinate_back v.x p.x) ∙ ap coordinate_of low_x ∙ coordinate_back u.x q.x
+    x = sym (coordinate_back v.x p.place.0) ∙ ap coordinate_of low_x ∙ coordinate_back u.x q.place.0
 
     y : v.y ≡ u.y
-    y = sym (coordinate_back v.y p.y) ∙ ap coordinate_of low_y ∙ coordinate_back u.y q.y
+    y = sym (coordinate_back v.y p.place.1) ∙ ap coordinate_of low_y ∙ coordinate_back u.y q.place.1
 
     s : v.s ≡ u.s
     s = omega (arith, last, p.s, q.s)

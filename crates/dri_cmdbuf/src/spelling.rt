@@ -1,7 +1,8 @@
 //! The words of a triangle: a header, and then four words for each vertex.
 
 ghost use Rattle.std.specs.Prelude.{◌≡◌, ◌≤◌, ◌+◌, ◌*◌};
-ghost use Rattle.dri_model.specs.CommandWords.{low_half, colour_word, vertex_words, triangle_words, IsCoordinate, IsVertex, IsTriangle};
+ghost use Rattle.dri_model.specs.CommandWords.{low_half, colour_word, vertex_words, triangle_words, IsVertex, IsTriangle};
+ghost use Rattle.dri_base.specs.Ranges.{IsVertexPlace};
 ghost use Rattle.dri_model.specs.Words.{halves};
 
 use dri_base::{Rgba, Triangle, Vertex};
@@ -14,7 +15,7 @@ pub const WORDS: usize = 13;
 
 // The low sixteen bits of a coordinate, in two's complement.
 fn coordinate(value: i32) -> u32
-    requires { IsCoordinate value }
+    requires { IsVertexPlace value }
     ensures value { result ≡ low_half value }
     ensures small { result ≤ 65535 }
 {

@@ -1,14 +1,15 @@
 //! A buffer that is full, and words that go wrong one after another.
 
-ghost use Rattle.dri_model.specs.CommandWords.{IsCoordinate, IsVertex, IsTriangle};
+ghost use Rattle.dri_model.specs.CommandWords.{IsVertex, IsTriangle};
+ghost use Rattle.dri_base.specs.Ranges.{IsVertexPlace};
 
 use crate::{BadWord, Buffer, BufferFull, decode};
 use dri_base::{Rgba, Triangle, Vertex};
 
 /// A vertex whose quantities are all different.
 fn vertex(x: i32, y: i32) -> Vertex
-    requires x { IsCoordinate x }
-    requires y { IsCoordinate y }
+    requires x { IsVertexPlace x }
+    requires y { IsVertexPlace y }
     ensures { IsVertex result }
 {
     Vertex {
