@@ -6,3 +6,4 @@ pub mod Quantities
 pub mod Rows
 pub mod Filters
 pub mod CommonEdges
+mod SumBounds

@@ -4,3 +4,4 @@ pub mod Channels
 pub mod Walks
 pub mod WalkStates
 pub mod Neighbours
+pub mod Sums
