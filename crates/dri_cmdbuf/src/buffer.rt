@@ -1,6 +1,7 @@
 //! A buffer of command words in fixed memory: a vector of fixed capacity, which contracts see as the list of its words.
 
 ghost use Rattle.std.specs.Prelude.{◌≡◌, ◌<◌, ◌≤◌, ◌+◌, ◌++◌, [], ◌∷◌, length, OnOk, IfErr, IsOk, ◌↔◌};
+ghost use Rattle.dri_base.specs.Ranges.{TriangleInRange};
 ghost use Rattle.dri_model.specs.CommandWords.{triangle_words, IsTriangle};
 ghost use Rattle.dri_cmdbuf.specs.Rooms.{IsRefused};
 
@@ -81,9 +82,10 @@ impl Buffer {
     /// Puts a triangle's thirteen words last, exactly where as many are free. Otherwise the buffer is as it was. The
     /// coordinates are -32,768 to 32,767.
     pub fn push_triangle(&mut self, triangle: &Triangle) -> Result<(), BufferFull>
-        requires { IsTriangle triangle.now }
+        requires { TriangleInRange triangle.now }
         ensures room { IsOk result ↔ (length self.old + 13 ≤ 4096) }
         ensures ok { OnOk result (self.new ≡ self.old ++ triangle_words triangle.now) }
+        ensures held { OnOk result (IsTriangle triangle.now) }
         ensures full { IfErr result (λ e. IsRefused self.old 13 e × (self.new ≡ self.old)) }
     {
         self.room_for(WORDS as u32)?;

@@ -1,8 +1,8 @@
 //! The words of a triangle: a header, and then four words for each vertex.
 
 ghost use Rattle.std.specs.Prelude.{◌≡◌, ◌≤◌, ◌+◌, ◌*◌};
-ghost use Rattle.dri_model.specs.CommandWords.{low_half, colour_word, vertex_words, triangle_words, IsVertex, IsTriangle};
-ghost use Rattle.dri_base.specs.Ranges.{IsVertexPlace};
+ghost use Rattle.dri_model.specs.CommandWords.{low_half, colour_word, vertex_words, triangle_words, IsColour, IsVertex, IsTriangle};
+ghost use Rattle.dri_base.specs.Ranges.{IsVertexPlace, TriangleInRange, VertexInRange};
 ghost use Rattle.dri_model.specs.Words.{halves};
 
 use dri_base::{Rgba, Triangle, Vertex};
@@ -36,7 +36,8 @@ fn two(low: u32, high: u32) -> u32
 }
 
 fn colour(colour: &Rgba) -> u32
-    ensures { result ≡ colour_word colour.now }
+    ensures value { result ≡ colour_word colour.now }
+    ensures held { IsColour colour.now }
 {
     u32::from(colour.r)
         + (256 * u32::from(colour.g)
@@ -44,8 +45,9 @@ fn colour(colour: &Rgba) -> u32
 }
 
 fn vertex(vertex: &Vertex) -> [u32; 4]
-    requires { IsVertex vertex.now }
-    ensures { result ≡ vertex_words vertex.now }
+    requires { VertexInRange vertex.now }
+    ensures value { result ≡ vertex_words vertex.now }
+    ensures held { IsVertex vertex.now }
 {
     [
         two(coordinate(vertex.x), coordinate(vertex.y)),
@@ -57,8 +59,9 @@ fn vertex(vertex: &Vertex) -> [u32; 4]
 
 /// The thirteen words of a triangle.
 pub fn triangle(triangle: &Triangle) -> [u32; 13]
-    requires { IsTriangle triangle.now }
-    ensures { result ≡ triangle_words triangle.now }
+    requires { TriangleInRange triangle.now }
+    ensures value { result ≡ triangle_words triangle.now }
+    ensures held { IsTriangle triangle.now }
 {
     let a = vertex(&triangle.a);
     let b = vertex(&triangle.b);

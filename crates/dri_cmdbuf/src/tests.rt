@@ -1,7 +1,6 @@
 //! A buffer that is full, and words that go wrong one after another.
 
-ghost use Rattle.dri_model.specs.CommandWords.{IsVertex, IsTriangle};
-ghost use Rattle.dri_base.specs.Ranges.{IsVertexPlace};
+ghost use Rattle.dri_base.specs.Ranges.{IsVertexPlace, TriangleInRange, VertexInRange};
 
 use crate::{BadWord, Buffer, BufferFull, decode};
 use dri_base::{Rgba, Triangle, Vertex};
@@ -10,7 +9,7 @@ use dri_base::{Rgba, Triangle, Vertex};
 fn vertex(x: i32, y: i32) -> Vertex
     requires x { IsVertexPlace x }
     requires y { IsVertexPlace y }
-    ensures { IsVertex result }
+    ensures { VertexInRange result }
 {
     Vertex {
         x,
@@ -29,7 +28,7 @@ fn vertex(x: i32, y: i32) -> Vertex
 
 /// A triangle with negative coordinates.
 fn triangle() -> Triangle
-    ensures { IsTriangle result }
+    ensures { TriangleInRange result }
 {
     Triangle {
         a: vertex(-32_768, -1),
