@@ -8,16 +8,8 @@ ghost use Rattle.dri_model.specs.WordFaults.{IsBadWord};
 ghost use Rattle.dri_cmdbuf.specs.Decoding.{is_good, coordinate_of, colour_of, vertex_of, triangle_of, triangles_of, IsWhole};
 
 use crate::spelling::{HEADER, WORDS};
-use dri_base::{Rgba, Triangle, Vertex};
+use dri_base::{BadWord, Rgba, Triangle, Vertex};
 use std::marker::Model;
-
-/// The first word that no command buffer has at that place after the words before it. Where the words end inside a
-/// triangle, `at` is how many there are and `word` is 0.
-#[derive(Clone, Copy, Debug, PartialEq, Eq)]
-pub struct BadWord {
-    pub at: u32,
-    pub word: u32,
-}
 
 /// The triangles of some command words. Contracts see the list of the triangles.
 #[derive(Drop)]

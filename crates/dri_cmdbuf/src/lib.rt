@@ -8,4 +8,4 @@ mod spelling;
 mod tests;
 
 pub use buffer::{Buffer, BufferFull};
-pub use decoded::{BadWord, Decoded, decode};
+pub use decoded::{Decoded, decode};

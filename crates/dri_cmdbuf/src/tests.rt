@@ -2,8 +2,8 @@
 
 ghost use Rattle.dri_base.specs.Ranges.{IsVertexPlace, TriangleInRange, VertexInRange};
 
-use crate::{BadWord, Buffer, BufferFull, decode};
-use dri_base::{Rgba, Triangle, Vertex};
+use crate::{Buffer, BufferFull, decode};
+use dri_base::{BadWord, Rgba, Triangle, Vertex};
 
 /// A vertex whose quantities are all different.
 fn vertex(x: i32, y: i32) -> Vertex

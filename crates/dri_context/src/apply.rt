@@ -5,15 +5,7 @@ ghost use Rattle.dri_model.specs.Words.{Spelled, loaded};
 ghost use Rattle.dri_model.specs.WordFaults.{IsBadWord};
 
 use crate::reader::Reader;
-use dri_base::Registers;
-
-/// The first word that no register words have at that place after the words before it. Where the words end inside a
-/// group, `at` is how many there are and `word` is 0.
-#[derive(Clone, Copy, Debug, PartialEq, Eq)]
-pub struct BadWord {
-    pub at: u32,
-    pub word: u32,
-}
+use dri_base::{BadWord, Registers};
 
 /// What takes register words.
 pub trait TakeWords {

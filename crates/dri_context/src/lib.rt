@@ -11,7 +11,7 @@ mod reader;
 mod tests;
 mod values;
 
-pub use apply::{BadWord, TakeWords};
+pub use apply::TakeWords;
 pub use context::ContextState;
 pub use emit::EmitWords;
 pub use groups::Groups;

@@ -1,9 +1,9 @@
 //! Dirty groups, their words, and words that go wrong.
 
-use crate::{BadWord, ContextState, Groups, TakeWords};
+use crate::{ContextState, Groups, TakeWords};
 use dri_base::{
-    Blend, BoundTexture, ClipRect, DepthFunc, Registers, Setting, Shade, State, TexFormat, TexMode,
-    TexShape, Wrap,
+    BadWord, Blend, BoundTexture, ClipRect, DepthFunc, Registers, Setting, Shade, State, TexFormat,
+    TexMode, TexShape, Wrap,
 };
 
 /// The registers of the state that every script begins with.

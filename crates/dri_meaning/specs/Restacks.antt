@@ -1,12 +1,11 @@
 -- What a new stack of windows gives: stamps, and what front shows.
-use Rattle.std.specs.Prelude.{Bool, List, None, Option, Some, if◌then◌else◌, slice_get, ℕ, ◌+◌}
+use Rattle.std.specs.Prelude.{Bool, List, None, Option, Some, slice_get, ℕ, ◌+◌}
 use Rattle.dri_base.specs.declared.colour.Rgb.{Rgb}
 use Rattle.dri_base.specs.declared.command.Change.{Change}
 use Rattle.dri_base.specs.declared.scene.Scene.{Scene}
 use Rattle.dri_base.specs.declared.scene.Window.{Window}
 use Rattle.dri_meaning.specs.Worlds.{World}
-use Rattle.dri_model.specs.Counting.{how_many}
-use Rattle.dri_model.specs.Stacks.{ground_colour, is_touched, same_top, stack_after, top}
+use Rattle.dri_model.specs.Stacks.{is_touched, painted, restamped, stack_after, touches}
 
 -- the stack after a change, where there is one
 abbrev pub change_stack : List Window → Option Change → List Window
@@ -19,15 +18,15 @@ touched_by s w new = is_touched s.width s.height w.stack new
 
 -- the stamps after a new stack: in rising window number, each touched window gets one above the counter before
 abbrev pub stamps_after : Scene → World → List Window → ℕ → ℕ
-stamps_after s w new n = if touched_by s w new n then w.counter + how_many (touched_by s w new) (n + 1) else w.stamps n
+stamps_after s w new = restamped s.width s.height w.stack new w.counter w.stamps
 
 -- the counter after a new stack: it rises by the number of touched windows
 abbrev pub counter_after : Scene → World → List Window → ℕ
-counter_after s w new = w.counter + how_many (touched_by s w new) 65
+counter_after s w new = w.counter + touches s.width s.height w.stack new
 
 -- front after a new stack: the new topmost window's background, or the root colour, where the topmost window changed
 abbrev pub front_painted : Scene → World → List Window → ℕ → ℕ → Rgb
-front_painted s w new x y = if same_top (top w.stack x y) (top new x y) then w.front x y else ground_colour s.root (top new x y)
+front_painted s w new = painted s.root w.stack new w.front
 
 -- the stack after the next change
 abbrev pub next_stack : Scene → World → List Window

@@ -1,11 +1,11 @@
 -- The stack of windows, from top to bottom.
-use Rattle.std.specs.Prelude.{ℕ, List, [], ◌∷◌, ◌++◌, map, filter, Bool, true, false, ◌&&◌, not, ◌==◌, nat_lt, nat_le, if◌then◌else◌, Option, Some, None, ℤ, pos, neg_ℤ, ◌+ℤ◌, int_lt, int_le}
+use Rattle.std.specs.Prelude.{ℕ, List, [], ◌∷◌, ◌++◌, map, filter, Bool, true, false, ◌&&◌, not, ◌==◌, nat_lt, nat_le, if◌then◌else◌, Option, Some, None, ℤ, pos, neg_ℤ, ◌+◌, ◌+ℤ◌, int_lt, int_le}
 use Rattle.std.specs.Ordering.{int_eq}
 use Rattle.dri_base.specs.declared.colour.Rgb.{Rgb}
 use Rattle.dri_base.specs.declared.scene.Window.{Window}
 use Rattle.dri_base.specs.declared.command.Change.{Change}
 use Rattle.dri_base.specs.declared.command.Change.TheVariants.{Map, Unmap, Move, Resize, Raise, Lower}
-use Rattle.dri_model.specs.Counting.{all_below}
+use Rattle.dri_model.specs.Counting.{all_below, how_many}
 
 -- the window's rectangle has the pixel
 abbrev pub has_pixel : Window → ℕ → ℕ → Bool
@@ -137,3 +137,16 @@ same_top None None = true
 same_top (Some a) (Some b) = a.number == b.number
 same_top None (Some b) = false
 same_top (Some a) None = false
+
+-- the stamp of window n after a new stack: in rising window number, each touched window gets one above the counter before
+abbrev pub restamped : ℕ → ℕ → List Window → List Window → ℕ → (ℕ → ℕ) → ℕ → ℕ
+restamped width height old new counter stamps n =
+    if is_touched width height old new n then counter + how_many (is_touched width height old new) (n + 1) else stamps n
+
+-- how many windows a new stack touches
+abbrev pub touches : ℕ → ℕ → List Window → List Window → ℕ
+touches width height old new = how_many (is_touched width height old new) 65
+
+-- front after a new stack: the new topmost window's background, or the root colour, where the topmost window changed
+abbrev pub painted : Rgb → List Window → List Window → (ℕ → ℕ → Rgb) → ℕ → ℕ → Rgb
+painted root old new front x y = if same_top (top old x y) (top new x y) then front x y else ground_colour root (top new x y)
