@@ -1,0 +1,4 @@
+pub mod Contents
+pub mod Drawing
+pub mod Loading
+pub mod Invariants

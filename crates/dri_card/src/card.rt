@@ -1,0 +1,211 @@
+//! The card keeps its three planes, its registers, the bytes of its texture memory and its clip. What it keeps always
+//! fits together: the planes have the same sides, the clip lies on them, and the bound image lies in the memory.
+
+ghost use Rattle.std.specs.Prelude.{◌≡◌, ◌≤◌, ◌+◌, ◌*◌, ◌∷◌, [], ℕ, List, length, OnOk, OnErr, IfOk, IfErr, IsOk, ◌↔◌};
+ghost use Rattle.dri_base.specs.declared.colour.Pixel.{Pixel};
+ghost use Rattle.dri_base.specs.declared.colour.Rgb.{Rgb};
+ghost use Rattle.dri_base.specs.declared.shape.Triangle.{Triangle};
+ghost use Rattle.dri_base.specs.Ranges.{InRange, IsPlace};
+ghost use Rattle.dri_model.specs.CommandWords.{IsTriangle, triangle_words, Buffer as IsBuffer};
+ghost use Rattle.dri_model.specs.Heaps.{uploaded};
+ghost use Rattle.dri_model.specs.Words.{Spelled, loaded};
+ghost use Rattle.dri_plane.specs.Grids.{area};
+ghost use Rattle.dri_card.specs.Contents.{Holds, IsOnCard, IsOpening, KeepSides, Shows, memory_of};
+ghost use Rattle.dri_card.specs.Drawing.{IsDispatchFault, OnlyDrawn, OnlyShown, after_triangle, after_triangles, cleared, painted, swapped};
+ghost use Rattle.dri_card.specs.Loading.{CanLoad, IsLoadFault, registers_after};
+ghost use Rattle.dri_card.specs.declared.faults.OutsideCard.TheVariants.{Base, Clip};
+
+use crate::faults::{DispatchFault, LoadFault, OutsideCard};
+use dri_base::{ClipRect, OutOfMemory, Point, Registers, Rgb, Scene, State, Steps};
+use dri_cmdbuf::{Buffer, decode};
+use dri_context::TakeWords;
+use dri_plane::Plane;
+use std::alloc::Global;
+use std::marker::Model;
+use std::sync::ledger::Ledger;
+
+/// The card. Contracts see what it holds: front, back and depth, with a pixel for each place of the screen; the registers;
+/// the bytes of the texture memory; and the clip, the rectangle of the screen in which triangles are drawn.
+#[derive(Drop)]
+pub struct Card {
+    front: Plane<Rgb>,
+    back: Plane<Rgb>,
+    depth: Plane<u16>,
+    registers: Registers,
+    memory: Vec<u8>,
+    clip: ClipRect,
+}
+
+impl Model for Card {
+    ghost use Rattle.dri_card.specs.Contents.{Contents};
+    ghost use Rattle.dri_card.specs.Invariants.{FitTogether};
+
+    ghost Value = { Contents };
+
+    ghost view = { λ c. record { front = c.front; back = c.back; depth = c.depth; registers = c.registers; memory = c.memory.items; clip = c.clip } };
+
+    ghost invariant = { λ c. FitTogether (record { front = c.front; back = c.back; depth = c.depth; registers = c.registers; memory = c.memory.items; clip = c.clip }) };
+}
+
+impl Card {
+    /// The card of a scene before anything is drawn: in front each pixel has the background of its topmost mapped window,
+    /// or the root colour; back is black and depth is 65,535; the registers are those of the default state with nothing
+    /// bound; the texture memory is zero; and the clip is empty. The scene is in range.
+    pub fn new(alloc: Global, scene: &Scene) -> Result<Card, OutOfMemory>
+        requires { InRange scene.now }
+        ensures { IfOk result (IsOpening scene.now) }
+    {
+        Err(OutOfMemory)
+    }
+
+    /// Loads registers: exactly where the words spell some and the image that is bound then lies in the texture memory.
+    /// The groups that the words spell become theirs, and nothing else changes. Otherwise nothing changes.
+    pub fn load_registers(&mut self, words: &[u32]) -> Result<(), LoadFault>
+        ensures ok { OnOk result ((s : Spelled words.now) × (self.new ≡ record self.old { registers = registers_after s self.old })) }
+        ensures can { (able : CanLoad words.now self.old) → IsOk result × (self.new ≡ record self.old { registers = registers_after able.spelled self.old }) }
+        ensures fault { IfErr result (IsLoadFault words.now self.old) }
+        ensures err { OnErr result (self.new ≡ self.old) }
+    {
+        let mut registers = self.registers;
+        registers.apply(words)?;
+        Ok(())
+    }
+
+    /// Sets the clip, exactly where the rectangle lies on the card. Nothing else changes.
+    pub fn set_clip(&mut self, rect: ClipRect) -> Result<(), OutsideCard>
+        ensures on_card { IsOk result ↔ IsOnCard rect self.old }
+        ensures ok { OnOk result (self.new ≡ record self.old { clip = rect }) }
+        ensures outside { IfErr result (λ outside. outside ≡ Clip rect) }
+        ensures err { OnErr result (self.new ≡ self.old) }
+    {
+        self.clip = rect;
+        Ok(())
+    }
+
+    /// Draws the triangles of the buffer in order, each at every pixel of the clip by the pixel rule, with the card's
+    /// registers and texture memory. The window's pixel is the screen's less the origin, the window's upper left corner,
+    /// whose coordinates are -1,024 to 1,024. `BadWord` comes exactly where the buffer's words spell no triangles, and
+    /// then nothing is drawn.
+    pub fn dispatch<L: Ledger>(
+        &mut self,
+        buffer: &Buffer,
+        origin: Point,
+        steps: &mut Steps<L>,
+    ) -> Result<(), DispatchFault>
+        requires x { IsPlace origin.x }
+        requires y { IsPlace origin.y }
+        ensures ok { OnOk result ((b : IsBuffer buffer.now) × ((f : ℕ → ℕ → Pixel) → Holds self.old f → Holds self.new (after_triangles self.old origin b.triangles f))) }
+        ensures drawn { (b : IsBuffer buffer.now) → IsOk result × ((f : ℕ → ℕ → Pixel) → Holds self.old f → Holds self.new (after_triangles self.old origin b.triangles f)) }
+        ensures one { (t : Triangle) → IsTriangle t → buffer.now ≡ triangle_words t → IsOk result × ((f : ℕ → ℕ → Pixel) → Holds self.old f → Holds self.new (after_triangle self.old origin t f)) }
+        ensures others { OnlyDrawn self.old self.new }
+        ensures sides { KeepSides self.old self.new }
+        ensures bad { IfErr result (IsDispatchFault buffer.now) }
+        ensures err { OnErr result (self.new ≡ self.old) }
+    {
+        let triangles = decode(buffer.words())?;
+        Ok(())
+    }
+
+    /// Writes a colour and a depth into each pixel of a rectangle of back and depth, exactly where it lies on the card.
+    /// Nothing else changes. It takes two steps a pixel.
+    pub fn clear<L: Ledger>(
+        &mut self,
+        rect: ClipRect,
+        colour: Rgb,
+        depth: u16,
+        steps: &mut Steps<L>,
+    ) -> Result<(), OutsideCard>
+        ensures on_card { IsOk result ↔ IsOnCard rect self.old }
+        ensures ok { OnOk result ((f : ℕ → ℕ → Pixel) → Holds self.old f → Holds self.new (cleared rect colour depth f)) }
+        ensures others { OnlyDrawn self.old self.new }
+        ensures sides { KeepSides self.old self.new }
+        ensures cost { OnOk result (steps.new ≡ steps.old + 2 * area rect) }
+        ensures outside { IfErr result (λ outside. outside ≡ Clip rect) }
+        ensures err { OnErr result ((self.new ≡ self.old) × (steps.new ≡ steps.old)) }
+    {
+        self.back.fill(&rect, colour, steps);
+        self.depth.fill(&rect, depth, steps);
+        Ok(())
+    }
+
+    /// Copies each pixel of a rectangle from back to front, exactly where it lies on the card. Nothing else changes. It
+    /// takes two steps a pixel.
+    pub fn swap<L: Ledger>(
+        &mut self,
+        rect: ClipRect,
+        steps: &mut Steps<L>,
+    ) -> Result<(), OutsideCard>
+        ensures on_card { IsOk result ↔ IsOnCard rect self.old }
+        ensures ok { OnOk result ((f : ℕ → ℕ → Pixel) (shown : ℕ → ℕ → Rgb) → Holds self.old f → Shows self.old shown → Shows self.new (swapped rect f shown)) }
+        ensures others { OnlyShown self.old self.new }
+        ensures sides { KeepSides self.old self.new }
+        ensures cost { OnOk result (steps.new ≡ steps.old + 2 * area rect) }
+        ensures outside { IfErr result (λ outside. outside ≡ Clip rect) }
+        ensures err { OnErr result ((self.new ≡ self.old) × (steps.new ≡ steps.old)) }
+    {
+        self.front.copy_from(&self.back, &rect, steps);
+        Ok(())
+    }
+
+    /// Writes bytes into the texture memory from the base on, exactly where they end within it. Nothing else changes.
+    /// There are at most 4,294,967,295 bytes.
+    pub fn upload(&mut self, base: u32, bytes: &[u8]) -> Result<(), OutsideCard>
+        requires { length bytes.now ≤ 4294967295 }
+        ensures within { IsOk result ↔ (base + length bytes.now ≤ length self.old.memory) }
+        ensures ok { OnOk result (memory_of self.new ≡ uploaded (memory_of self.old) base bytes.now) }
+        ensures others { self.new ≡ record self.old { memory = self.new.memory } }
+        ensures len { length self.new.memory ≡ length self.old.memory }
+        ensures outside { IfErr result (λ outside. outside ≡ Base base (length bytes.now)) }
+        ensures err { OnErr result (self.new ≡ self.old) }
+    {
+        Ok(())
+    }
+
+    /// Writes a colour into each pixel of a rectangle of front, exactly where it lies on the card. Nothing else changes.
+    /// It takes a step a pixel.
+    pub fn paint<L: Ledger>(
+        &mut self,
+        rect: ClipRect,
+        colour: Rgb,
+        steps: &mut Steps<L>,
+    ) -> Result<(), OutsideCard>
+        ensures on_card { IsOk result ↔ IsOnCard rect self.old }
+        ensures ok { OnOk result ((shown : ℕ → ℕ → Rgb) → Shows self.old shown → Shows self.new (painted rect colour shown)) }
+        ensures others { OnlyShown self.old self.new }
+        ensures sides { KeepSides self.old self.new }
+        ensures cost { OnOk result (steps.new ≡ steps.old + area rect) }
+        ensures outside { IfErr result (λ outside. outside ≡ Clip rect) }
+        ensures err { OnErr result ((self.new ≡ self.old) × (steps.new ≡ steps.old)) }
+    {
+        self.front.fill(&rect, colour, steps);
+        Ok(())
+    }
+
+    /// What the screen shows.
+    pub fn front(&self) -> &Plane<Rgb>
+        ensures { result.now ≡ self.now.front }
+    {
+        &self.front
+    }
+
+    /// The colours that are drawn.
+    pub fn back(&self) -> &Plane<Rgb>
+        ensures { result.now ≡ self.now.back }
+    {
+        &self.back
+    }
+
+    /// The depth of each pixel that is drawn.
+    pub fn depth(&self) -> &Plane<u16>
+        ensures { result.now ≡ self.now.depth }
+    {
+        &self.depth
+    }
+
+    /// The registers.
+    pub fn registers(&self) -> &Registers
+        ensures { result.now ≡ self.now.registers }
+    {
+        &self.registers
+    }
+}

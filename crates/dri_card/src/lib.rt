@@ -1,0 +1,9 @@
+//! The card: three planes of pixels, registers, texture memory and a clip. It takes register words and command words,
+//! and draws each triangle of them by the pixel rule.
+#![tactic(auto)]
+
+mod card;
+mod faults;
+
+pub use card::Card;
+pub use faults::{DispatchFault, LoadFault, OutsideCard};
