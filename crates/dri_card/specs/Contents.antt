@@ -42,10 +42,14 @@ IsOnCard rect v = IsInside rect v.front.width v.front.height
 abbrev pub Shows : Contents → (ℕ → ℕ → Rgb) → Type 0
 Shows v f = v.front.pixels ≡ plane v.front.width v.front.height f
 
+-- a plane of colours and a plane of depths hold these pairs
+pub record HoldPairs (back : Grid Rgb) (depth : Grid ℕ) (f : ℕ → ℕ → Pixel) : Type 0 where
+  pub colours : back.pixels ≡ plane back.width back.height (λ x y. (f x y).colour)
+  pub depths : depth.pixels ≡ plane depth.width depth.height (λ x y. (f x y).depth)
+
 -- back and depth hold these pairs
-pub record Holds (v : Contents) (f : ℕ → ℕ → Pixel) : Type 0 where
-  pub colours : v.back.pixels ≡ plane v.back.width v.back.height (λ x y. (f x y).colour)
-  pub depths : v.depth.pixels ≡ plane v.depth.width v.depth.height (λ x y. (f x y).depth)
+abbrev pub Holds : Contents → (ℕ → ℕ → Pixel) → Type 0
+Holds v f = HoldPairs v.back v.depth f
 
 -- byte a of the texture memory
 abbrev pub memory_of : Contents → ℕ → ℕ
