@@ -1,11 +1,19 @@
--- What always holds of what the card holds.
+-- What always holds of the card.
 use Rattle.std.specs.Prelude.{length}
+use Rattle.dri_base.specs.Ranges.{IsSide}
 use Rattle.dri_model.specs.Words.{IsBoundInRange, IsScissorInRange}
+use Rattle.dri_card.specs.declared.card.Card.TheInside.{Inside}
 use Rattle.dri_card.specs.Contents.{Contents, HaveSides, IsOnCard}
 use Rattle.dri_card.specs.Loading.{IsImageWithin}
 
--- the planes have the same sides; the bound image and the scissor are in range, and the image lies in the memory; the clip lies on the card
+-- what the card holds
+abbrev pub contents : Inside → Contents
+contents c = record { front = c.front; back = c.target.back; depth = c.target.depth; registers = c.registers; memory = c.memory.items; clip = c.clip }
+
+-- the planes have the same sides, 1 to 1,024; the bound image and the scissor are in range, and the image lies in the memory; the clip lies on the card
 pub record FitTogether (v : Contents) : Type 0 where
+  pub wide : IsSide v.front.width
+  pub high : IsSide v.front.height
   pub sides : HaveSides v v.front.width v.front.height
   pub bound : IsBoundInRange v.registers.bound
   pub scissor : IsScissorInRange v.registers.scissor

@@ -1,36 +1,41 @@
 //! The card keeps its three planes, its registers, the bytes of its texture memory and its clip. What it keeps always
 //! fits together: the planes have the same sides, the clip lies on them, and the bound image lies in the memory.
 
-ghost use Rattle.std.specs.Prelude.{◌≡◌, ◌≤◌, ◌+◌, ◌*◌, ◌∷◌, [], ℕ, List, length, OnOk, OnErr, IfOk, IfErr, IsOk, ◌↔◌};
+ghost use Rattle.std.specs.Prelude.{◌≡◌, ◌≤◌, ◌+◌, ◌*◌, ℕ, length, All, None, OnOk, OnErr, IfOk, IfErr, IsOk, ◌↔◌};
 ghost use Rattle.dri_base.specs.declared.colour.Pixel.{Pixel};
 ghost use Rattle.dri_base.specs.declared.colour.Rgb.{Rgb};
 ghost use Rattle.dri_base.specs.declared.shape.Triangle.{Triangle};
-ghost use Rattle.dri_base.specs.Ranges.{InRange, IsPlace};
+ghost use Rattle.dri_base.specs.Ranges.{InRange, IsPlace, TriangleInRange};
+ghost use Rattle.dri_base.specs.States.{default_state};
 ghost use Rattle.dri_model.specs.CommandWords.{IsTriangle, triangle_words, Buffer as IsBuffer};
 ghost use Rattle.dri_model.specs.Heaps.{uploaded};
-ghost use Rattle.dri_model.specs.Words.{Spelled, loaded};
+ghost use Rattle.dri_model.specs.Words.{Spelled, registers_for};
 ghost use Rattle.dri_plane.specs.Grids.{area};
 ghost use Rattle.dri_card.specs.Contents.{Holds, IsOnCard, IsOpening, KeepSides, Shows, memory_of};
 ghost use Rattle.dri_card.specs.Drawing.{IsDispatchFault, OnlyDrawn, OnlyShown, after_triangle, after_triangles, cleared, painted, swapped};
 ghost use Rattle.dri_card.specs.Loading.{CanLoad, IsLoadFault, registers_after};
 ghost use Rattle.dri_card.specs.declared.faults.OutsideCard.TheVariants.{Base, Clip};
 
+use crate::clipping::narrowed;
+use crate::drawing::Drawing;
 use crate::faults::{DispatchFault, LoadFault, OutsideCard};
-use dri_base::{ClipRect, OutOfMemory, Point, Registers, Rgb, Scene, State, Steps};
-use dri_cmdbuf::{Buffer, decode};
+use crate::memory::{expect_within, write, zeros};
+use crate::opening::opening_front;
+use crate::target::Target;
+use dri_base::{ClipRect, OutOfMemory, Point, Registers, Rgb, Scene, State, Steps, Triangle};
+use dri_cmdbuf::{Buffer, Decoded, decode};
 use dri_context::TakeWords;
 use dri_plane::Plane;
 use std::alloc::Global;
-use std::marker::Model;
-use std::sync::ledger::Ledger;
+use std::marker::{Brand, Model};
+use std::sync::ledger::{Blank, Ledger};
 
 /// The card. Contracts see what it holds: front, back and depth, with a pixel for each place of the screen; the registers;
 /// the bytes of the texture memory; and the clip, the rectangle of the screen in which triangles are drawn.
 #[derive(Drop)]
 pub struct Card {
     front: Plane<Rgb>,
-    back: Plane<Rgb>,
-    depth: Plane<u16>,
+    target: Target,
     registers: Registers,
     memory: Vec<u8>,
     clip: ClipRect,
@@ -38,13 +43,13 @@ pub struct Card {
 
 impl Model for Card {
     ghost use Rattle.dri_card.specs.Contents.{Contents};
-    ghost use Rattle.dri_card.specs.Invariants.{FitTogether};
+    ghost use Rattle.dri_card.specs.Invariants.{FitTogether, contents};
 
     ghost Value = { Contents };
 
-    ghost view = { λ c. record { front = c.front; back = c.back; depth = c.depth; registers = c.registers; memory = c.memory.items; clip = c.clip } };
+    ghost view = { contents };
 
-    ghost invariant = { λ c. FitTogether (record { front = c.front; back = c.back; depth = c.depth; registers = c.registers; memory = c.memory.items; clip = c.clip }) };
+    ghost invariant = { λ c. FitTogether (contents c) };
 }
 
 impl Card {
@@ -55,7 +60,20 @@ impl Card {
         requires { InRange scene.now }
         ensures { IfOk result (IsOpening scene.now) }
     {
-        Err(OutOfMemory)
+        opening::<Brand>(alloc, scene, Blank::new(1))
+    }
+
+    // Refuses a rectangle that isn't on the card.
+    fn expect_inside(&self, rect: ClipRect) -> Result<(), OutsideCard>
+        ensures inside { IsOk result ↔ IsOnCard rect self.now }
+        ensures outside { IfErr result (λ outside. outside ≡ Clip rect) }
+    {
+        let columns = rect.x1 <= rect.x2 && u32::from(rect.x2) <= self.front.width();
+        let rows = rect.y1 <= rect.y2 && u32::from(rect.y2) <= self.front.height();
+        if columns && rows {
+            return Ok(());
+        }
+        Err(OutsideCard::Clip { rect })
     }
 
     /// Loads registers: exactly where the words spell some and the image that is bound then lies in the texture memory.
@@ -68,6 +86,8 @@ impl Card {
     {
         let mut registers = self.registers;
         registers.apply(words)?;
+        expect_within(&registers.bound, self.memory.len())?;
+        self.registers = registers;
         Ok(())
     }
 
@@ -78,6 +98,7 @@ impl Card {
         ensures outside { IfErr result (λ outside. outside ≡ Clip rect) }
         ensures err { OnErr result (self.new ≡ self.old) }
     {
+        self.expect_inside(rect)?;
         self.clip = rect;
         Ok(())
     }
@@ -103,7 +124,40 @@ impl Card {
         ensures err { OnErr result (self.new ≡ self.old) }
     {
         let triangles = decode(buffer.words())?;
+        self.draw_all(&triangles, origin, steps);
         Ok(())
+    }
+
+    fn draw_all<L: Ledger>(
+        &mut self,
+        triangles: &Decoded<'_>,
+        origin: Point,
+        steps: &mut Steps<L>,
+    )
+        requires x { IsPlace origin.x }
+        requires y { IsPlace origin.y }
+        requires triangles { All IsTriangle triangles.now }
+        ensures drawn { (f : ℕ → ℕ → Pixel) → Holds self.old f → Holds self.new (after_triangles self.old origin triangles.now f) }
+        ensures others { OnlyDrawn self.old self.new }
+        ensures sides { KeepSides self.old self.new }
+    {
+        for i in 0..triangles.len() {
+            self.draw(&triangles.triangle(i), origin, steps);
+        }
+    }
+
+    fn draw<L: Ledger>(&mut self, triangle: &Triangle, origin: Point, steps: &mut Steps<L>)
+        requires x { IsPlace origin.x }
+        requires y { IsPlace origin.y }
+        requires triangle { TriangleInRange triangle.now }
+        ensures drawn { (f : ℕ → ℕ → Pixel) → Holds self.old f → Holds self.new (after_triangle self.old origin triangle.now f) }
+        ensures others { OnlyDrawn self.old self.new }
+        ensures sides { KeepSides self.old self.new }
+    {
+        if let Some(drawing) = Drawing::new(&self.registers, self.memory.as_slice(), triangle) {
+            let rect = narrowed(&self.clip, &self.registers.scissor, origin);
+            drawing.draw(&mut self.target, origin, &rect, steps);
+        }
     }
 
     /// Writes a colour and a depth into each pixel of a rectangle of back and depth, exactly where it lies on the card.
@@ -123,8 +177,8 @@ impl Card {
         ensures outside { IfErr result (λ outside. outside ≡ Clip rect) }
         ensures err { OnErr result ((self.new ≡ self.old) × (steps.new ≡ steps.old)) }
     {
-        self.back.fill(&rect, colour, steps);
-        self.depth.fill(&rect, depth, steps);
+        self.expect_inside(rect)?;
+        self.target.clear(&rect, colour, depth, steps);
         Ok(())
     }
 
@@ -143,7 +197,8 @@ impl Card {
         ensures outside { IfErr result (λ outside. outside ≡ Clip rect) }
         ensures err { OnErr result ((self.new ≡ self.old) × (steps.new ≡ steps.old)) }
     {
-        self.front.copy_from(&self.back, &rect, steps);
+        self.expect_inside(rect)?;
+        self.front.copy_from(&self.target.back, &rect, steps);
         Ok(())
     }
 
@@ -158,6 +213,14 @@ impl Card {
         ensures outside { IfErr result (λ outside. outside ≡ Base base (length bytes.now)) }
         ensures err { OnErr result (self.new ≡ self.old) }
     {
+        let start = base as usize;
+        if self.memory.len() < start + bytes.len() {
+            return Err(OutsideCard::Base {
+                base,
+                len: bytes.len() as u32,
+            });
+        }
+        write(self.memory.as_mut_slice(), start, bytes);
         Ok(())
     }
 
@@ -177,6 +240,7 @@ impl Card {
         ensures outside { IfErr result (λ outside. outside ≡ Clip rect) }
         ensures err { OnErr result ((self.new ≡ self.old) × (steps.new ≡ steps.old)) }
     {
+        self.expect_inside(rect)?;
         self.front.fill(&rect, colour, steps);
         Ok(())
     }
@@ -192,14 +256,14 @@ impl Card {
     pub fn back(&self) -> &Plane<Rgb>
         ensures { result.now ≡ self.now.back }
     {
-        &self.back
+        &self.target.back
     }
 
     /// The depth of each pixel that is drawn.
     pub fn depth(&self) -> &Plane<u16>
         ensures { result.now ≡ self.now.depth }
     {
-        &self.depth
+        &self.target.depth
     }
 
     /// The registers.
@@ -208,4 +272,51 @@ impl Card {
     {
         &self.registers
     }
+}
+
+// The registers of the default state, with nothing bound.
+fn opening_registers() -> Registers
+    ensures { result ≡ registers_for default_state None }
+{
+    let state = State::initial();
+    Registers {
+        shade: state.shade,
+        depth_func: state.depth_func,
+        depth_write: state.depth_write,
+        blend: state.blend,
+        tex_mode: state.tex_mode,
+        wrap: state.wrap,
+        bound: None,
+        scissor: state.scissor,
+    }
+}
+
+// The painting of front counts steps that nobody asks for.
+fn opening<L: Ledger>(
+    alloc: Global,
+    scene: &Scene,
+    blank: Blank,
+) -> Result<Card, OutOfMemory>
+    requires name { blank.name ≡ L.name }
+    requires parts { blank.parts ≡ L.parts }
+    requires one { L.parts ≡ 1 }
+    requires scene { InRange scene.now }
+    ensures { IfOk result (IsOpening scene.now) }
+{
+    let mut steps = Steps::<L>::new(blank);
+    let front = opening_front(alloc, scene, &mut steps)?;
+    let target = Target::new(alloc, scene.width, scene.height)?;
+    let memory = zeros(alloc, scene.regions as usize * scene.region_size as usize)?;
+    Ok(Card {
+        front,
+        target,
+        registers: opening_registers(),
+        memory,
+        clip: ClipRect {
+            x1: 0,
+            y1: 0,
+            x2: 0,
+            y2: 0,
+        },
+    })
 }

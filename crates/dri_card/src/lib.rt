@@ -3,7 +3,13 @@
 #![tactic(auto)]
 
 mod card;
+mod clipping;
+mod drawing;
 mod faults;
+mod memory;
+mod opening;
+mod sampler;
+mod target;
 
 pub use card::Card;
 pub use faults::{DispatchFault, LoadFault, OutsideCard};

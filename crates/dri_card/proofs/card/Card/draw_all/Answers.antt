@@ -1,0 +1,19 @@
+-- One triangle more.
+use Rattle.std.proofs.Common.{ap, ◌∙◌, rules}
+use Rattle.dri_card.specs.Contents.{Contents}
+use Rattle.dri_card.specs.Drawing.{after_triangles}
+use Rattle.std.proofs.Common.{take}
+use Rattle.dri_card.proofs.CardPlanes.{triangles_more, drawn_twice}
+use Rattle.dri_card.proofs.card.Card.draw_all.Goals as goal
+
+pub loop-i-preserved : goal.loop-i-preserved
+loop-i-preserved g c =
+    let old = c.args.self.now in
+    let ts = c.args.triangles.now in
+    let seen = c.loop-i.invariant in
+    record {
+      drawn = λ f holds. triangles_more old c.loop-i.self c.draw.new.self c.args.origin ts c.loop-i.i c.triangle.result f seen.others c.triangle.ensures
+          (c.draw.ensures.drawn (after_triangles old c.args.origin (take c.loop-i.i ts) f) (seen.drawn f holds));
+      others = drawn_twice old c.loop-i.self c.draw.new.self seen.others c.draw.ensures.others;
+      sides = λ width height sides. c.draw.ensures.sides width height (seen.sides width height sides);
+    }

@@ -1,0 +1,18 @@
+-- What is left is the pixel rule.
+use Rattle.std.proofs.Common.{◌≡◌, ℤ, refl, sym, subst, rules}
+use Rattle.dri_base.specs.Fragments.{fragment, shaded}
+use Rattle.dri_model.specs.Words.{card_image}
+use Rattle.dri_texel.specs.Pixels.{view_of}
+use Rattle.dri_card.specs.Pairs.{byte_in, own_colour, pair_left, unscissored}
+use Rattle.dri_card.proofs.PixelRules.{drawing_is}
+use Rattle.dri_card.proofs.drawing.Drawing.new.Goals as goal
+use Rattle.dri_card.proofs.drawing.Drawing.new.Goals.{in-Flat, in-Smooth}
+
+pub returns-clause-some : goal.returns-clause-some
+returns-clause-some c =
+    let t = c.args.triangle.now in
+    let r = c.args.registers.now in
+    let same : t ≡ c.in_ok-setup.setup = search rules in
+    let colours : (x y : ℤ) → own_colour c.match-registers.result t x y ≡ shaded r.shade t x y = elim c.match-registers.branch [ in-Flat w ↦ λ x y. rw (w.result-is, w.in-Flat.is) refl | in-Smooth w ↦ λ x y. rw (w.result-is, w.in-Smooth.is) refl ] in
+    subst (λ s. pair_left (record { setup = s; registers = view_of (unscissored r); flat = c.match-registers.result; texture = c.new-2.result }) ≡ fragment (unscissored r) (card_image (byte_in c.args.memory.now) r.bound) t) same
+    (drawing_is c.pixel_rule.ensures r (card_image (byte_in c.args.memory.now) r.bound) t c.match-registers.result c.new-2.result colours c.new-2.ensures)

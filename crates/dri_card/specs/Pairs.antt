@@ -1,0 +1,56 @@
+-- Two planes of pairs, and what is drawn on them.
+use Rattle.std.specs.Prelude.{ℕ, ◌≡◌, ◌≤◌, ℤ, pos, ◌-ℤ◌, Bool, ◌&&◌, ◌==◌, nat_le, nat_lt, if◌then◌else◌, Option, Some, None, List, get_or}
+use Rattle.dri_base.specs.declared.colour.Rgb.{Rgb}
+use Rattle.dri_base.specs.declared.colour.Rgba.{Rgba}
+use Rattle.dri_base.specs.declared.colour.Pixel.{Pixel}
+use Rattle.dri_base.specs.declared.shape.ClipRect.{ClipRect}
+use Rattle.dri_base.specs.declared.shape.Point.{Point}
+use Rattle.dri_base.specs.declared.state.Registers.{Registers}
+use Rattle.dri_base.specs.declared.state.Shade.{Shade}
+use Rattle.dri_base.specs.declared.state.Shade.TheVariants.{Flat, Smooth}
+use Rattle.dri_base.specs.declared.shape.Triangle.{Triangle}
+use Rattle.dri_base.specs.Coverage.{covers, quantity}
+use Rattle.dri_base.specs.Fragments.{Rules, in_scissor, shaded}
+use Rattle.dri_model.specs.Words.{rules_in}
+use Rattle.dri_plane.specs.Grids.{in_rect}
+use Rattle.dri_texel.specs.Pixels.{left_over}
+use Rattle.dri_card.specs.declared.target.Target.{Target}
+use Rattle.dri_card.specs.declared.drawing.Drawing.{Drawing}
+use Rattle.dri_card.specs.Contents.{HoldPairs}
+use Rattle.dri_card.specs.Samplings.{texel_of}
+
+-- byte a of a memory; beyond it, 0
+abbrev pub byte_in : List ℕ → ℕ → ℕ
+byte_in memory a = get_or memory a 0
+
+-- where the old planes hold the pairs of f, the new ones hold those that the change makes of f
+abbrev pub PairsBecome : Target → Target → ((ℕ → ℕ → Pixel) → ℕ → ℕ → Pixel) → Type 0
+PairsBecome old new change = (f : ℕ → ℕ → Pixel) → HoldPairs old.back old.depth f → HoldPairs new.back new.depth (change f)
+
+-- the rules of the registers, without their scissor
+abbrev pub unscissored : Registers → Rules
+unscissored r = record (rules_in r) { scissor = None }
+
+-- the one colour of a flat triangle, or that of its corners
+abbrev pub own_colour : Option Rgba → Triangle → ℤ → ℤ → Rgba
+own_colour None t x y = shaded Smooth t x y
+own_colour (Some colour) t x y = colour
+
+-- the pair that a drawing leaves at the window's pixel (x, y)
+abbrev pub pair_left : Drawing → ℤ → ℤ → Pixel → Pixel
+pair_left d x y under =
+    if covers d.setup x y
+    then left_over d.registers (texel_of d.texture (quantity d.setup (λ v. v.s) x y) (quantity d.setup (λ v. v.t) x y)) (own_colour d.flat d.setup x y) (quantity d.setup (λ v. v.z) x y) under
+    else under
+
+-- place (a, b) lies in that row, from column left up to column right
+abbrev pub in_row : ℕ → ℕ → ℕ → ℕ → ℕ → Bool
+in_row y left right a b = (b == y) && (nat_le left a && nat_lt a right)
+
+-- the pairs after a drawing at the places of a set; the window's pixel is the screen's less the origin
+abbrev pub drawn_at : (ℕ → ℕ → Bool) → Point → (ℤ → ℤ → Pixel → Pixel) → (ℕ → ℕ → Pixel) → ℕ → ℕ → Pixel
+drawn_at places origin drawing f a b = if places a b then drawing (pos a -ℤ origin.x) (pos b -ℤ origin.y) (f a b) else f a b
+
+-- the rectangle's places are those of the clip whose window's pixel lies in the scissor
+abbrev pub IsNarrowed : ClipRect → Option ClipRect → Point → ClipRect → Type 0
+IsNarrowed clip scissor origin rect = (a b : ℕ) → in_rect rect a b ≡ (in_rect clip a b && in_scissor scissor (pos a -ℤ origin.x) (pos b -ℤ origin.y))
