@@ -58,6 +58,7 @@ pub triangle_missed : (v : Contents) (origin : Point) (t : Triangle) (f : ℕ �
 triangle_missed v origin t f none x y = by (in_rect v.clip x y) where
   image : Option Image
   image = card_image (memory_of v) v.registers.bound
+
   by : (b : Bool) → f x y ≡ (if b then drawn v t (pos x -ℤ origin.x) (pos y -ℤ origin.y) (f x y) else f x y)
   by false = refl
   by true = rw (none (pos x -ℤ origin.x) (pos y -ℤ origin.y)) refl

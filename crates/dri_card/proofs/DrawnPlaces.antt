@@ -30,14 +30,14 @@ pub more_drawn : (old mid new : Target) (places more all : ℕ → ℕ → Bool)
     → PairsBecome old new (drawn_at all origin drawing)
 more_drawn old mid new places more all origin drawing one two joined apart =
     becomes_twice old mid new _ _ _ one two (λ f a b. by f a b (places a b) (more a b) (joined a b) (apart a b))
-    where
-      by : (f : ℕ → ℕ → Pixel) (a b : ℕ) (p q : Bool) → ((drawn kept : Pixel) → (if p then (if q then kept else drawn) else (if q then drawn else kept)) ≡ (if all a b then drawn else kept)) → (p && q) ≡ false
-          → (if q then drawing (pos a -ℤ origin.x) (pos b -ℤ origin.y) (if p then drawing (pos a -ℤ origin.x) (pos b -ℤ origin.y) (f a b) else f a b) else (if p then drawing (pos a -ℤ origin.x) (pos b -ℤ origin.y) (f a b) else f a b))
-          ≡ (if all a b then drawing (pos a -ℤ origin.x) (pos b -ℤ origin.y) (f a b) else f a b)
-      by f a b true true joined apart = grind (arith, apart)
-      by f a b true false joined apart = joined _ _
-      by f a b false true joined apart = joined _ _
-      by f a b false false joined apart = joined _ _
+  where
+    by : (f : ℕ → ℕ → Pixel) (a b : ℕ) (p q : Bool) → ((drawn kept : Pixel) → (if p then (if q then kept else drawn) else (if q then drawn else kept)) ≡ (if all a b then drawn else kept)) → (p && q) ≡ false
+        → (if q then drawing (pos a -ℤ origin.x) (pos b -ℤ origin.y) (if p then drawing (pos a -ℤ origin.x) (pos b -ℤ origin.y) (f a b) else f a b) else (if p then drawing (pos a -ℤ origin.x) (pos b -ℤ origin.y) (f a b) else f a b))
+        ≡ (if all a b then drawing (pos a -ℤ origin.x) (pos b -ℤ origin.y) (f a b) else f a b)
+    by f a b true true joined apart = grind (arith, apart)
+    by f a b true false joined apart = joined _ _
+    by f a b false true joined apart = joined _ _
+    by f a b false false joined apart = joined _ _
 
 -- the columns of a row before x, and x
 pub row_more : (old mid new : Target) (y left x : ℕ) (origin : Point) (drawing : ℤ → ℤ → Pixel → Pixel) → left ≤ x
@@ -45,11 +45,12 @@ pub row_more : (old mid new : Target) (y left x : ℕ) (origin : Point) (drawing
     → PairsBecome old new (drawn_at (in_row y left (x + 1)) origin drawing)
 row_more old mid new y left x origin drawing from one two =
     more_drawn old mid new (in_row y left x) (is_place x y) (in_row y left (x + 1)) origin drawing one two (λ a b drawn kept. joined a b drawn kept) (λ a b. apart a b)
-    where
-      joined : (a b : ℕ) (drawn kept : Pixel) → (if in_row y left x a b then (if is_place x y a b then kept else drawn) else (if is_place x y a b then drawn else kept)) ≡ (if in_row y left (x + 1) a b then drawn else kept)
-      joined a b drawn kept = grind (arith, nat_tests)
-      apart : (a b : ℕ) → (in_row y left x a b && is_place x y a b) ≡ false
-      apart a b = grind (arith, nat_tests)
+  where
+    joined : (a b : ℕ) (drawn kept : Pixel) → (if in_row y left x a b then (if is_place x y a b then kept else drawn) else (if is_place x y a b then drawn else kept)) ≡ (if in_row y left (x + 1) a b then drawn else kept)
+    joined a b drawn kept = grind (arith, nat_tests)
+
+    apart : (a b : ℕ) → (in_row y left x a b && is_place x y a b) ≡ false
+    apart a b = grind (arith, nat_tests)
 
 -- the rows of a rectangle before y
 abbrev pub rows_before : ClipRect → ℕ → ℕ → ℕ → Bool
@@ -61,12 +62,13 @@ pub rows_more : (old mid new : Target) (r : ClipRect) (y : ℕ) (origin : Point)
     → PairsBecome old new (drawn_at (rows_before r (y + 1)) origin drawing)
 rows_more old mid new r y origin drawing from one two =
     more_drawn old mid new (rows_before r y) (in_row y r.x1 r.x2) (rows_before r (y + 1)) origin drawing one two (λ a b drawn kept. joined b drawn kept (nat_le r.x1 a && nat_lt a r.x2)) (λ a b. apart b (nat_le r.x1 a && nat_lt a r.x2))
-    where
-      joined : (b : ℕ) (drawn kept : Pixel) (across : Bool) → (if across && (nat_le r.y1 b && nat_lt b y) then (if (b == y) && across then kept else drawn) else (if (b == y) && across then drawn else kept))
-          ≡ (if across && (nat_le r.y1 b && nat_lt b (y + 1)) then drawn else kept)
-      joined b drawn kept across = grind (arith, nat_tests)
-      apart : (b : ℕ) (across : Bool) → ((across && (nat_le r.y1 b && nat_lt b y)) && ((b == y) && across)) ≡ false
-      apart b across = grind (arith, nat_tests)
+  where
+    joined : (b : ℕ) (drawn kept : Pixel) (across : Bool) → (if across && (nat_le r.y1 b && nat_lt b y) then (if (b == y) && across then kept else drawn) else (if (b == y) && across then drawn else kept))
+        ≡ (if across && (nat_le r.y1 b && nat_lt b (y + 1)) then drawn else kept)
+    joined b drawn kept across = grind (arith, nat_tests)
+
+    apart : (b : ℕ) (across : Bool) → ((across && (nat_le r.y1 b && nat_lt b y)) && ((b == y) && across)) ≡ false
+    apart b across = grind (arith, nat_tests)
 
 -- a value by numbers that are others
 pub at_place : {A : Type 0} {r : A} (value : ℤ → ℤ → A) (u v x y : ℤ) → r ≡ value u v → u ≡ x → v ≡ y → r ≡ value x y
@@ -78,19 +80,19 @@ pub place_drawn : (old new : Target) (x y : ℕ) (origin : Point) (drawing : ℤ
     → PairsBecome old new (λ f a b. if is_place x y a b then left else f a b) → PairsBecome old new (drawn_at (is_place x y) origin drawing)
 place_drawn old new x y origin drawing under left reads is writes f holds =
     pairs_same new.back new.depth _ _ (λ a b. by a b (a == x) (b == y) (eqb-true a x) (eqb-true b y)) (writes f holds)
-    where
-      by : (a b : ℕ) (p q : Bool) → (p ≡ true → a ≡ x) → (q ≡ true → b ≡ y) → (if p && q then left else f a b) ≡ (if p && q then drawing (pos a -ℤ origin.x) (pos b -ℤ origin.y) (f a b) else f a b)
-      by a b true true ex ey = is ∙ rw (ex refl, ey refl, reads f holds) refl
-      by a b true false ex ey = refl
-      by a b false q ex ey = refl
+  where
+    by : (a b : ℕ) (p q : Bool) → (p ≡ true → a ≡ x) → (q ≡ true → b ≡ y) → (if p && q then left else f a b) ≡ (if p && q then drawing (pos a -ℤ origin.x) (pos b -ℤ origin.y) (f a b) else f a b)
+    by a b true true ex ey = is ∙ rw (ex refl, ey refl, reads f holds) refl
+    by a b true false ex ey = refl
+    by a b false q ex ey = refl
 
 -- a place where the drawing leaves what is there
 pub place_left : (target : Target) (x y : ℕ) (origin : Point) (drawing : ℤ → ℤ → Pixel → Pixel) → ((under : Pixel) → drawing (pos x -ℤ origin.x) (pos y -ℤ origin.y) under ≡ under)
     → PairsBecome target target (drawn_at (is_place x y) origin drawing)
 place_left target x y origin drawing same f holds =
     pairs_same target.back target.depth _ _ (λ a b. by a b (a == x) (b == y) (eqb-true a x) (eqb-true b y)) holds
-    where
-      by : (a b : ℕ) (p q : Bool) → (p ≡ true → a ≡ x) → (q ≡ true → b ≡ y) → f a b ≡ (if p && q then drawing (pos a -ℤ origin.x) (pos b -ℤ origin.y) (f a b) else f a b)
-      by a b true true ex ey = rw (ex refl, ey refl) (sym (same (f x y)))
-      by a b true false ex ey = refl
-      by a b false q ex ey = refl
+  where
+    by : (a b : ℕ) (p q : Bool) → (p ≡ true → a ≡ x) → (q ≡ true → b ≡ y) → f a b ≡ (if p && q then drawing (pos a -ℤ origin.x) (pos b -ℤ origin.y) (f a b) else f a b)
+    by a b true true ex ey = rw (ex refl, ey refl) (sym (same (f x y)))
+    by a b true false ex ey = refl
+    by a b false q ex ey = refl

@@ -128,12 +128,7 @@ impl Card {
         Ok(())
     }
 
-    fn draw_all<L: Ledger>(
-        &mut self,
-        triangles: &Decoded<'_>,
-        origin: Point,
-        steps: &mut Steps<L>,
-    )
+    fn draw_all<L: Ledger>(&mut self, triangles: &Decoded<'_>, origin: Point, steps: &mut Steps<L>)
         requires x { IsPlace origin.x }
         requires y { IsPlace origin.y }
         requires triangles { All IsTriangle triangles.now }
@@ -292,11 +287,7 @@ fn opening_registers() -> Registers
 }
 
 // The painting of front counts steps that nobody asks for.
-fn opening<L: Ledger>(
-    alloc: Global,
-    scene: &Scene,
-    blank: Blank,
-) -> Result<Card, OutOfMemory>
+fn opening<L: Ledger>(alloc: Global, scene: &Scene, blank: Blank) -> Result<Card, OutOfMemory>
     requires name { blank.name ≡ L.name }
     requires parts { blank.parts ≡ L.parts }
     requires one { L.parts ≡ 1 }

@@ -31,11 +31,7 @@ pub struct Drawing<'a> {
 impl<'a> Drawing<'a> {
     /// The drawing of a triangle by the registers, the scissor left out, and `None` exactly where the triangle has no
     /// area.
-    pub fn new(
-        registers: &Registers,
-        memory: &'a [u8],
-        triangle: &Triangle,
-    ) -> Option<Drawing<'a>>
+    pub fn new(registers: &Registers, memory: &'a [u8], triangle: &Triangle) -> Option<Drawing<'a>>
         requires triangle { TriangleInRange triangle.now }
         requires bound { IsBoundInRange registers.now.bound }
         requires within { IsImageWithin (length memory.now) registers.now.bound }

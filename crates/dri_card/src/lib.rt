@@ -10,6 +10,8 @@ mod memory;
 mod opening;
 mod sampler;
 mod target;
+#[cfg(test)]
+mod tests;
 
 pub use card::Card;
 pub use faults::{DispatchFault, LoadFault, OutsideCard};

@@ -18,13 +18,13 @@ returns-then-covers-clause-pairs g c =
     let old = c.args.target.now in
     let new = c.put.new.self in
     let left : c.left-left.result ≡ pair_left d (pos x -ℤ o.x) (pos y -ℤ o.y) c.get-under.result =
-        at_place (λ u v. pair_left d u v c.get-under.result) (to_z w32 (of_z w32 (to_z w32 (of_z w32 c.from.result) -ℤ to_z w32 (of_z w32 o.x)))) (to_z w32 (of_z w32 (to_z w32 (of_z w32 c.from-2.result) -ℤ to_z w32 (of_z w32 o.y))))
-        (pos x -ℤ o.x) (pos y -ℤ o.y) c.left-left.ensures (omega (arith, ints)) (omega (arith, ints)) in
+    at_place (λ u v. pair_left d u v c.get-under.result) (to_z w32 (of_z w32 (to_z w32 (of_z w32 c.from.result) -ℤ to_z w32 (of_z w32 o.x)))) (to_z w32 (of_z w32 (to_z w32 (of_z w32 c.from-2.result) -ℤ to_z w32 (of_z w32 o.y))))
+    (pos x -ℤ o.x) (pos y -ℤ o.y) c.left-left.ensures (omega (arith, ints)) (omega (arith, ints)) in
     let reads : (f : ℕ → ℕ → Pixel) → HoldPairs old.back old.depth f → c.get-under.result ≡ f x y =
-        λ f h. subst (λ a. c.get-under.result ≡ f a y) c.from-then-covers.ensures (subst (λ b. c.get-under.result ≡ f c.from-then-covers.result b) c.from-then-covers-2.ensures (c.get-under.ensures.pair f h)) in
+    λ f h. subst (λ a. c.get-under.result ≡ f a y) c.from-then-covers.ensures (subst (λ b. c.get-under.result ≡ f c.from-then-covers.result b) c.from-then-covers-2.ensures (c.get-under.ensures.pair f h)) in
     let writes : PairsBecome old new (λ f a b. if is_place x y a b then c.left-left.result else f a b) =
-        subst (λ p. PairsBecome old new (λ f a b. if is_place p y a b then c.left-left.result else f a b)) c.from-then-covers-3.ensures
-        (subst (λ q. PairsBecome old new (λ f a b. if is_place c.from-then-covers-3.result q a b then c.left-left.result else f a b)) c.from-then-covers-4.ensures c.put.ensures.pairs) in
+    subst (λ p. PairsBecome old new (λ f a b. if is_place p y a b then c.left-left.result else f a b)) c.from-then-covers-3.ensures
+    (subst (λ q. PairsBecome old new (λ f a b. if is_place c.from-then-covers-3.result q a b then c.left-left.result else f a b)) c.from-then-covers-4.ensures c.put.ensures.pairs) in
     place_drawn old new x y o (pair_left d) c.get-under.result c.left-left.result reads left writes
 
 pub returns-else-covers-clause-pairs : goal.returns-else-covers-clause-pairs
