@@ -35,3 +35,6 @@ pub mod Wholes
 pub mod PlainDraws
 pub mod AgeBounds
 pub mod Bounds
+mod PixelRules
+mod SoloPixels
+pub mod ScriptRanges

@@ -18,3 +18,4 @@ pub mod Reports
 pub mod ExampleScenes
 pub mod ExampleRuns
 pub mod PlainScripts
+pub mod Scripts
