@@ -32,6 +32,8 @@ pub mod RanFrames
 pub mod StoodSince
 pub mod StoodFrames
 pub mod Wholes
-pub mod PlainDraws
 pub mod AgeBounds
 pub mod Bounds
+mod PixelRules
+mod SoloPixels
+pub mod ScriptRanges

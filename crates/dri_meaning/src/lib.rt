@@ -1,18 +1,25 @@
 //! What a run of the core means: frames drawn alone, worlds, the tables of entries and events, and runs. These stand in
 //! this crate's specifications. Most functions here do nothing; their contracts are the laws that hold of every run.
+//! Two draw a frame alone, pixel by pixel, as the definition does.
 #![tactic(auto)]
 
+mod bound;
 mod core_runs;
+mod frame;
 mod hold_runs;
+mod picture;
+mod settings;
 mod solo;
 #[cfg(test)]
 mod tests;
+mod triangle;
 mod worked;
 
 pub use core_runs::{core, rounds_end, turns};
 pub use hold_runs::{
     bounded, central, confined, counted, decided, foreign, frames, own, solo_left,
 };
+pub use picture::{Picture, Pixels, SoloFault, solo_picture};
 pub use solo::solo_pixel;
 pub use worked::{
     a_scissor, a_triangle, changed_beside, covered_and_uncovered, covered_whole, death,

@@ -7,4 +7,4 @@ mod pixel;
 mod tests;
 
 pub use image::fetch;
-pub use pixel::{RegisterView, fragment, passes, pixel_rule};
+pub use pixel::{RegisterView, fragment, pixel_rule};

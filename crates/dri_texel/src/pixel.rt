@@ -48,7 +48,7 @@ pub fn pixel_rule()
 {}
 
 /// Whether the depth function holds of `z` and the depth under it.
-pub fn passes(func: DepthFunc, z: u16, depth: u16) -> bool
+fn passes(func: DepthFunc, z: u16, depth: u16) -> bool
     ensures { result ≡ passes func z depth }
 {
     match func {

@@ -1,7 +1,7 @@
 -- What is left of the script leads to the frame.
 use Rattle.std.proofs.Common.{◌≡◌, ◌+◌, ◌<◌, ◌≤◌, drop, IfSome}
 use Rattle.dri_meaning.specs.Solo.{frame, frame_from}
-use Rattle.dri_meaning.proofs.solo.frame_of.Given as goal
+use Rattle.dri_meaning.proofs.frame.frame_of.Given as goal
 
 abbrev pub invariant-loop-i : goal.invariant-loop-i
 invariant-loop-i l = record {

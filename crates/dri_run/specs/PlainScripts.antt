@@ -1,5 +1,5 @@
 -- Scripts without settings: every triangle is drawn with the default state.
-use Rattle.std.specs.Prelude.{◌≤ℤ◌, ℤ, pos, Option, None}
+use Rattle.std.specs.Prelude.{ℤ, Option, None}
 use Rattle.dri_base.specs.declared.command.Command.{Command}
 use Rattle.dri_base.specs.declared.command.Command.TheVariants.{Set, Clear, Triangle, Swap, Yield, Die}
 use Rattle.dri_base.specs.declared.colour.Pixel.{Pixel}
@@ -16,10 +16,6 @@ IsPlain (Clear colour depth) = Unit {0}
 IsPlain Swap = Unit {0}
 IsPlain Yield = Unit {0}
 IsPlain Die = Unit {0}
-
--- a column or a row of a window
-abbrev pub IsWindowPlace : ℤ → Type 0
-IsWindowPlace n = (pos 0 ≤ℤ n) × (n ≤ℤ pos 1023)
 
 -- the pair that a command leaves at the window's pixel (x, y) in the default state, over the pair under it
 abbrev pub drawn_plainly : Option Command → ℤ → ℤ → Pixel → Pixel

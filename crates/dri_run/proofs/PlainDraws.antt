@@ -1,5 +1,5 @@
 -- What a script without settings draws.
-use Rattle.std.proofs.Common.{◌≡◌, ℕ, suc, ◌+◌, List, [], ◌∷◌, All, Bool, true, false, ◌&&◌, if◌then◌else◌, Some, None, ℤ, take, pred, refl, sym, ap, ◌∙◌, add-one, arith}
+use Rattle.std.proofs.Common.{◌≡◌, ℕ, List, [], ◌∷◌, All, Bool, true, false, ◌&&◌, if◌then◌else◌, None, ℤ, take, pred, refl, arith}
 use Rattle.std.specs.Prelude.{slice_get}
 use Rattle.std.proofs.lemmas.List.Elements.{All-take, All-tail}
 use Rattle.dri_base.specs.declared.colour.Pixel.{Pixel}
@@ -11,8 +11,8 @@ use Rattle.dri_base.specs.Coverage.{covers}
 use Rattle.dri_base.specs.Fragments.{fragment, rules_of}
 use Rattle.dri_base.specs.declared.state.State.{State}
 use Rattle.dri_base.specs.States.{default_state, state_at, states}
-use Rattle.dri_meaning.specs.PlainScripts.{IsPlain, drawn_plainly}
-use Rattle.dri_meaning.specs.Solo.{drawn_at, solo}
+use Rattle.dri_run.specs.PlainScripts.{IsPlain, drawn_plainly}
+use Rattle.dri_meaning.specs.Solo.{drawn_at}
 
 -- a triangle in the default state: the third vertex's colour where it covers, and the depth stays
 pub flat_fragment : (t : Triangle) (x y : ℤ) (under : Pixel) → fragment (rules_of default_state) None t x y under
@@ -38,17 +38,3 @@ pub plain_at : (p : ClientScript) (i : ℕ) (x y : ℤ) (under : Pixel) → All 
 plain_at p i x y under all =
     let same : state_at p.commands i ≡ default_state = plain_states default_state (take (pred i) p.commands) (All-take IsPlain (pred i) p.commands all) in
     rw same refl
-
--- the command at a place
-pub drawn_here : (p : ClientScript) (i k : ℕ) (x y : ℤ) (command : Command) (under new : Pixel) → new ≡ drawn_plainly (Some command) x y under
-    → slice_get p.commands k ≡ Some command → k ≡ pred i → All IsPlain p.commands → new ≡ drawn_at p i x y under
-drawn_here p i k x y command under new drawn here place all =
-    let at : slice_get p.commands (pred i) ≡ Some command = rw (← place) here in
-    drawn ∙ ap (λ c. drawn_plainly c x y under) (sym at) ∙ sym (plain_at p i x y under all)
-
--- one more command
-pub solo_more : (p : ClientScript) (first n : ℕ) (x y : ℤ) (old new : Pixel) → old ≡ solo p first n x y → new ≡ drawn_at p (first + n + 1) x y old → new ≡ solo p first (n + 1) x y
-solo_more p first n x y old new so_far drawn =
-    let place : first + n + 1 ≡ first + suc n = omega arith in
-    let step : new ≡ drawn_at p (first + suc n) x y old = rw (← place) drawn in
-    rw (add-one n) (step ∙ ap (λ u. drawn_at p (first + suc n) x y u) so_far)
