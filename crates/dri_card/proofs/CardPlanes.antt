@@ -1,6 +1,6 @@
 -- What the card's calls make of its planes.
-use Rattle.std.proofs.Common.{◌≡◌, ℕ, suc, ◌+◌, ◌<◌, ◌≤◌, List, [], ◌∷◌, ◌++◌, take, length, fold, get_or, add-one, Bool, true, false, ◌&&◌, if◌then◌else◌, Option, Some, None, ℤ, pos, ◌-ℤ◌, refl, sym, ap, ◌∙◌, subst}
-use Rattle.std.proofs.lemmas.List.{take_all, get_or-replicate, get_or_past}
+use Rattle.std.proofs.Common.{◌≡◌, ℕ, ◌+◌, ◌≤◌, List, [], ◌∷◌, ◌++◌, take, length, fold, add-one, Bool, true, false, ◌&&◌, if◌then◌else◌, Option, Some, ℤ, pos, ◌-ℤ◌, refl, sym, ap, ◌∙◌, subst}
+use Rattle.std.proofs.lemmas.List.{take_all}
 use Rattle.std.proofs.lemmas.List.Sums.{fold-append}
 use Rattle.std.proofs.lemmas.Option.{get_or_from_slice_get, slice_get_within}
 use Rattle.std.proofs.Math.Seq.{take-suc}
@@ -17,7 +17,7 @@ use Rattle.dri_base.specs.Planes.{plane}
 use Rattle.dri_base.specs.Texels.{Image}
 use Rattle.dri_model.specs.Words.{card_image, rules_in}
 use Rattle.dri_plane.specs.Grids.{Grid, Becomes, in_rect}
-use Rattle.dri_card.specs.Contents.{Contents, HoldPairs, Holds, memory_of}
+use Rattle.dri_card.specs.Contents.{Contents, Holds, memory_of}
 use Rattle.dri_card.specs.Drawing.{OnlyDrawn, after_triangle, after_triangles, drawn}
 use Rattle.dri_card.specs.Pairs.{IsNarrowed, drawn_at, unscissored}
 use Rattle.dri_card.proofs.PairPlanes.{pairs_same}

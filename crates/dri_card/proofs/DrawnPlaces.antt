@@ -5,7 +5,7 @@ use Rattle.std.proofs.lemmas.Bool.{eqb-true}
 use Rattle.dri_base.specs.declared.colour.Pixel.{Pixel}
 use Rattle.dri_base.specs.declared.shape.ClipRect.{ClipRect}
 use Rattle.dri_base.specs.declared.shape.Point.{Point}
-use Rattle.dri_plane.specs.Grids.{in_rect, is_place}
+use Rattle.dri_plane.specs.Grids.{is_place}
 use Rattle.dri_card.specs.declared.target.Target.{Target}
 use Rattle.dri_card.specs.Contents.{HoldPairs}
 use Rattle.dri_card.specs.Pairs.{PairsBecome, drawn_at, in_row}

@@ -1,9 +1,8 @@
 -- Windows that are painted over those below them.
-use Rattle.std.proofs.Common.{◌≡◌, ℕ, ◌<◌, List, [], ◌∷◌, Bool, true, false, ◌&&◌, if◌then◌else◌, Option, Some, None, refl, sym, ap, ◌∙◌}
+use Rattle.std.proofs.Common.{◌≡◌, ℕ, List, ◌∷◌, Bool, true, false, ◌&&◌, if◌then◌else◌, Some, refl, sym, ap, ◌∙◌}
 use Rattle.dri_base.specs.declared.colour.Rgb.{Rgb}
 use Rattle.dri_base.specs.declared.scene.Window.{Window}
 use Rattle.dri_base.specs.declared.shape.ClipRect.{ClipRect}
-use Rattle.dri_base.specs.Planes.{plane}
 use Rattle.dri_model.specs.Stacks.{ground_colour, has_pixel, top}
 use Rattle.dri_plane.specs.Grids.{Grid, Becomes, in_rect}
 use Rattle.dri_plane.proofs.Planes.{plane_same}

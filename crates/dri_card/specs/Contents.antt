@@ -1,5 +1,5 @@
 -- What the card holds.
-use Rattle.std.specs.Prelude.{ℕ, ◌≡◌, ◌*◌, List, length, get_or, None}
+use Rattle.std.specs.Prelude.{ℕ, ◌≡◌, List, length, get_or, None}
 use Rattle.dri_base.specs.declared.colour.Rgb.{Rgb}
 use Rattle.dri_base.specs.declared.colour.Pixel.{Pixel}
 use Rattle.dri_base.specs.declared.shape.ClipRect.{ClipRect}

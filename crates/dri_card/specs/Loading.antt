@@ -5,9 +5,9 @@ use Rattle.dri_base.specs.declared.texture.BoundTexture.{BoundTexture}
 use Rattle.dri_base.specs.declared.texture.TexShape.{TexShape}
 use Rattle.dri_base.specs.Scenes.{texel_bytes}
 use Rattle.dri_model.specs.WordFaults.{IsBadWord}
-use Rattle.dri_model.specs.Words.{Spelled, loaded, IsBoundInRange, IsScissorInRange}
+use Rattle.dri_model.specs.Words.{Spelled, loaded}
 use Rattle.dri_card.specs.declared.faults.OutsideCard.{OutsideCard}
-use Rattle.dri_card.specs.declared.faults.OutsideCard.TheVariants.{Clip, Base}
+use Rattle.dri_card.specs.declared.faults.OutsideCard.TheVariants.{Base}
 use Rattle.dri_card.specs.declared.faults.LoadFault.{LoadFault}
 use Rattle.dri_card.specs.declared.faults.LoadFault.TheVariants.{BadWord, Outside}
 use Rattle.dri_card.specs.Contents.{Contents}

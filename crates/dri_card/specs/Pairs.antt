@@ -1,13 +1,11 @@
 -- Two planes of pairs, and what is drawn on them.
-use Rattle.std.specs.Prelude.{ℕ, ◌≡◌, ◌≤◌, ℤ, pos, ◌-ℤ◌, Bool, ◌&&◌, ◌==◌, nat_le, nat_lt, if◌then◌else◌, Option, Some, None, List, get_or}
-use Rattle.dri_base.specs.declared.colour.Rgb.{Rgb}
+use Rattle.std.specs.Prelude.{ℕ, ◌≡◌, ℤ, pos, ◌-ℤ◌, Bool, ◌&&◌, ◌==◌, nat_le, nat_lt, if◌then◌else◌, Option, Some, None, List, get_or}
 use Rattle.dri_base.specs.declared.colour.Rgba.{Rgba}
 use Rattle.dri_base.specs.declared.colour.Pixel.{Pixel}
 use Rattle.dri_base.specs.declared.shape.ClipRect.{ClipRect}
 use Rattle.dri_base.specs.declared.shape.Point.{Point}
 use Rattle.dri_base.specs.declared.state.Registers.{Registers}
-use Rattle.dri_base.specs.declared.state.Shade.{Shade}
-use Rattle.dri_base.specs.declared.state.Shade.TheVariants.{Flat, Smooth}
+use Rattle.dri_base.specs.declared.state.Shade.TheVariants.{Smooth}
 use Rattle.dri_base.specs.declared.shape.Triangle.{Triangle}
 use Rattle.dri_base.specs.Coverage.{covers, quantity}
 use Rattle.dri_base.specs.Fragments.{Rules, in_scissor, shaded}
@@ -15,6 +13,7 @@ use Rattle.dri_model.specs.Words.{rules_in}
 use Rattle.dri_plane.specs.Grids.{in_rect}
 use Rattle.dri_texel.specs.Pixels.{left_over}
 use Rattle.dri_card.specs.declared.target.Target.{Target}
+use Rattle.dri_card.specs.declared.depth_test.DepthTest.{DepthTest}
 use Rattle.dri_card.specs.declared.drawing.Drawing.{Drawing}
 use Rattle.dri_card.specs.Contents.{HoldPairs}
 use Rattle.dri_card.specs.Samplings.{texel_of}
@@ -36,10 +35,14 @@ abbrev pub own_colour : Option Rgba → Triangle → ℤ → ℤ → Rgba
 own_colour None t x y = shaded Smooth t x y
 own_colour (Some colour) t x y = colour
 
+-- the depth test draws z over a depth
+abbrev pub is_drawn : DepthTest → ℕ → ℕ → Bool
+is_drawn d z depth = if nat_lt z depth then d.below else (if nat_lt depth z then d.above else d.equal)
+
 -- the pair that a drawing leaves at the window's pixel (x, y)
 abbrev pub pair_left : Drawing → ℤ → ℤ → Pixel → Pixel
 pair_left d x y under =
-    if covers d.setup x y
+    if covers d.setup x y && is_drawn d.depth_test (quantity d.setup (λ v. v.z) x y) under.depth
     then left_over d.registers (texel_of d.texture (quantity d.setup (λ v. v.s) x y) (quantity d.setup (λ v. v.t) x y)) (own_colour d.flat d.setup x y) (quantity d.setup (λ v. v.z) x y) under
     else under
 

@@ -12,11 +12,12 @@ ghost use Rattle.dri_card.specs.Loading.{IsImageWithin};
 ghost use Rattle.dri_card.specs.Pairs.{PairsBecome, byte_in, drawn_at, in_row, own_colour, pair_left, unscissored};
 ghost use Rattle.dri_card.specs.Samplings.{texel_of};
 
+use crate::depth_test::DepthTest;
 use crate::sampler::Sampler;
 use crate::target::Target;
 use dri_base::{ClipRect, Pixel, Point, Registers, Rgb, Rgba, Shade, Steps, Triangle};
 use dri_raster::{Channel, Setup};
-use dri_texel::{RegisterView, fragment, passes, pixel_rule};
+use dri_texel::{RegisterView, fragment, pixel_rule};
 use std::sync::ledger::Ledger;
 
 /// A triangle with an area, ready to be drawn.
@@ -24,6 +25,7 @@ use std::sync::ledger::Ledger;
 pub struct Drawing<'a> {
     setup: Setup,
     registers: RegisterView,
+    depth_test: DepthTest,
     flat: Option<Rgba>,
     texture: Option<Sampler<'a>>,
 }
@@ -48,6 +50,7 @@ impl<'a> Drawing<'a> {
                 blend: registers.blend,
                 tex_mode: registers.tex_mode,
             },
+            depth_test: DepthTest::new(registers.depth_func),
             flat: match registers.shade {
                 Shade::Flat => Some(triangle.c.colour),
                 Shade::Smooth => None,
@@ -136,7 +139,7 @@ impl<'a> Drawing<'a> {
         ensures { result ≡ pair_left self.now x y under }
     {
         let z = self.setup.value_at(Channel::Z, x, y) as u16;
-        if !passes(self.registers.depth_func, z, under.depth) {
+        if !self.depth_test.passes(z, under.depth) {
             return under;
         }
         let texel = self.texel(x, y);

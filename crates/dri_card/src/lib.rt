@@ -4,6 +4,7 @@
 
 mod card;
 mod clipping;
+mod depth_test;
 mod drawing;
 mod faults;
 mod memory;

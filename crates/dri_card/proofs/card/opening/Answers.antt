@@ -1,5 +1,5 @@
 -- The card before anything is drawn.
-use Rattle.std.proofs.Common.{◌≡◌, ◌*◌, replicate, refl, ap, ◌∙◌, rules, subst, sym}
+use Rattle.std.proofs.Common.{◌≡◌, ◌*◌, replicate, refl, rules}
 use Rattle.dri_card.proofs.Bytes.{zeros_read}
 use Rattle.std.proofs.lemmas.List.{length-replicate}
 use Rattle.dri_card.proofs.card.opening.Goals as goal

@@ -1,5 +1,5 @@
 -- The window is painted over those below.
-use Rattle.std.proofs.Common.{◌≡◌, true, rules}
+use Rattle.std.proofs.Common.{rules}
 use Rattle.dri_card.specs.Openings.{IsCut}
 use Rattle.dri_card.proofs.Stacked.{window_painted}
 use Rattle.dri_card.proofs.opening.paint_window.Goals as goal

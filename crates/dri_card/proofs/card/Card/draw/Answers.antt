@@ -1,12 +1,11 @@
 -- The triangle is drawn in the clip and the scissor.
-use Rattle.std.proofs.Common.{◌≡◌, sym, subst, ◌∙◌, ap, rules}
+use Rattle.std.proofs.Common.{◌≡◌, sym, subst, ◌∙◌, ap}
 use Rattle.dri_base.specs.Fragments.{fragment}
 use Rattle.dri_model.specs.Words.{card_image}
-use Rattle.dri_plane.specs.Grids.{in_rect}
 use Rattle.dri_card.specs.Contents.{HoldPairs, Holds}
 use Rattle.dri_card.specs.Drawing.{after_triangle}
 use Rattle.dri_card.specs.Invariants.{contents}
-use Rattle.dri_card.specs.Pairs.{byte_in, drawn_at, pair_left, unscissored}
+use Rattle.dri_card.specs.Pairs.{byte_in, pair_left, unscissored}
 use Rattle.dri_card.proofs.CardPlanes.{triangle_drawn}
 use Rattle.dri_card.proofs.PairPlanes.{pairs_same}
 use Rattle.dri_card.proofs.card.Card.draw.Goals as goal

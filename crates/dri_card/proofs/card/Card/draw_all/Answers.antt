@@ -1,6 +1,4 @@
 -- One triangle more.
-use Rattle.std.proofs.Common.{ap, ◌∙◌, rules}
-use Rattle.dri_card.specs.Contents.{Contents}
 use Rattle.dri_card.specs.Drawing.{after_triangles}
 use Rattle.std.proofs.Common.{take}
 use Rattle.dri_card.proofs.CardPlanes.{triangles_more, drawn_twice}

@@ -1,7 +1,6 @@
 -- Back is copied to front.
 use Rattle.std.proofs.Common.{sym, subst}
 use Rattle.dri_card.specs.Contents.{Holds, Shows}
-use Rattle.dri_card.specs.Drawing.{swapped}
 use Rattle.dri_card.proofs.CardPlanes.{shows_change}
 use Rattle.dri_card.proofs.card.Card.swap.Goals as goal
 use Rattle.std.proofs.Common.{if◌then◌else◌}

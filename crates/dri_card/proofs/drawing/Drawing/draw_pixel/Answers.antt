@@ -1,5 +1,5 @@
 -- The place is drawn where it is covered.
-use Rattle.std.proofs.Common.{◌≡◌, ℕ, ℤ, pos, ◌-ℤ◌, true, false, if◌then◌else◌, refl, subst, w32, to_z, of_z, rules, arith}
+use Rattle.std.proofs.Common.{◌≡◌, ℕ, pos, ◌-ℤ◌, false, if◌then◌else◌, refl, subst, w32, to_z, of_z, rules, arith}
 use Rattle.std.proofs.lemmas.Int.{ints}
 use Rattle.dri_base.specs.declared.colour.Pixel.{Pixel}
 use Rattle.dri_base.specs.Coverage.{covers}

@@ -1,9 +1,9 @@
 -- What is left is the pixel rule.
-use Rattle.std.proofs.Common.{◌≡◌, ℤ, refl, sym, subst, rules}
-use Rattle.dri_base.specs.Fragments.{fragment, shaded}
+use Rattle.std.proofs.Common.{◌≡◌, ℕ, ℤ, refl, subst, rules}
+use Rattle.dri_base.specs.Fragments.{fragment, passes, shaded}
 use Rattle.dri_model.specs.Words.{card_image}
 use Rattle.dri_texel.specs.Pixels.{view_of}
-use Rattle.dri_card.specs.Pairs.{byte_in, own_colour, pair_left, unscissored}
+use Rattle.dri_card.specs.Pairs.{byte_in, is_drawn, own_colour, pair_left, unscissored}
 use Rattle.dri_card.proofs.PixelRules.{drawing_is}
 use Rattle.dri_card.proofs.drawing.Drawing.new.Goals as goal
 use Rattle.dri_card.proofs.drawing.Drawing.new.Goals.{in-Flat, in-Smooth}
@@ -14,5 +14,6 @@ returns-clause-some c =
     let r = c.args.registers.now in
     let same : t ≡ c.in_ok-setup.setup = search rules in
     let colours : (x y : ℤ) → own_colour c.match-registers.result t x y ≡ shaded r.shade t x y = elim c.match-registers.branch [ in-Flat w ↦ λ x y. rw (w.result-is, w.in-Flat.is) refl | in-Smooth w ↦ λ x y. rw (w.result-is, w.in-Smooth.is) refl ] in
-    subst (λ s. pair_left (record { setup = s; registers = view_of (unscissored r); flat = c.match-registers.result; texture = c.new-2.result }) ≡ fragment (unscissored r) (card_image (byte_in c.args.memory.now) r.bound) t) same
-    (drawing_is c.pixel_rule.ensures r (card_image (byte_in c.args.memory.now) r.bound) t c.match-registers.result c.new-2.result colours c.new-2.ensures)
+    let depths : (z depth : ℕ) → is_drawn c.new-2.result z depth ≡ passes r.depth_func z depth = c.new-2.ensures in
+    subst (λ s. pair_left (record { setup = s; registers = view_of (unscissored r); depth_test = c.new-2.result; flat = c.match-registers.result; texture = c.new-3.result }) ≡ fragment (unscissored r) (card_image (byte_in c.args.memory.now) r.bound) t) same
+    (drawing_is c.pixel_rule.ensures r (card_image (byte_in c.args.memory.now) r.bound) t c.new-2.result c.match-registers.result c.new-3.result depths colours c.new-3.ensures)
