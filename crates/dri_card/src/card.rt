@@ -121,13 +121,14 @@ impl Card {
         ensures others { OnlyDrawn self.old self.new }
         ensures sides { KeepSides self.old self.new }
         ensures bad { IfErr result (IsDispatchFault buffer.now) }
-        ensures err { OnErr result (self.new ≡ self.old) }
+        ensures err { OnErr result ((self.new ≡ self.old) × (steps.new ≡ steps.old)) }
     {
         let triangles = decode(buffer.words())?;
         self.draw_all(&triangles, origin, steps);
         Ok(())
     }
 
+    // Draws triangles one after another.
     fn draw_all<L: Ledger>(&mut self, triangles: &Decoded<'_>, origin: Point, steps: &mut Steps<L>)
         requires x { IsPlace origin.x }
         requires y { IsPlace origin.y }
@@ -141,6 +142,7 @@ impl Card {
         }
     }
 
+    // Draws a triangle in the part of the clip that lies in the scissor.
     fn draw<L: Ledger>(&mut self, triangle: &Triangle, origin: Point, steps: &mut Steps<L>)
         requires x { IsPlace origin.x }
         requires y { IsPlace origin.y }

@@ -1,5 +1,5 @@
 -- The triangle is drawn in the clip and the scissor.
-use Rattle.std.proofs.Common.{◌≡◌, sym, subst, ◌∙◌, ap}
+use Rattle.std.proofs.Common.{◌≡◌, sym, subst}
 use Rattle.dri_base.specs.Fragments.{fragment}
 use Rattle.dri_model.specs.Words.{card_image}
 use Rattle.dri_card.specs.Contents.{HoldPairs, Holds}
@@ -16,7 +16,8 @@ returns-in-Some-clause-drawn g c =
     let t = c.args.triangle.now in
     let d = pair_left c.in-Some.drawing in
     let bytes : c.as_slice.result.now ≡ c.self.inside.memory.items = c.as_slice.ensures.value in
-    let is : d ≡ fragment (unscissored r) (card_image (byte_in c.self.inside.memory.items) r.bound) t = c.in-Some.ensures.some ∙ ap (λ m. fragment (unscissored r) (card_image (byte_in m) r.bound) t) bytes in
+    let is : d ≡ fragment (unscissored r) (card_image (byte_in c.self.inside.memory.items) r.bound) t =
+    subst (λ m. d ≡ fragment (unscissored r) (card_image (byte_in m) r.bound) t) bytes c.in-Some.ensures.some in
     λ f holds.
     let here = subst (λ v. Holds v f) (sym c.self.view_is) holds in
     let new = c.draw.new.target in
