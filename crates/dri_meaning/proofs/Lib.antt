@@ -32,7 +32,6 @@ pub mod RanFrames
 pub mod StoodSince
 pub mod StoodFrames
 pub mod Wholes
-pub mod PlainDraws
 pub mod AgeBounds
 pub mod Bounds
 mod PixelRules

@@ -17,5 +17,4 @@ pub mod Measures
 pub mod Reports
 pub mod ExampleScenes
 pub mod ExampleRuns
-pub mod PlainScripts
 pub mod Scripts

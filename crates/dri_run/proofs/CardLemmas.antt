@@ -14,8 +14,8 @@ use Rattle.dri_base.specs.Coverage.{covers}
 use Rattle.dri_base.specs.Planes.{plane}
 use Rattle.dri_plane.specs.Grids.{Grid, Becomes, in_rect}
 use Rattle.dri_plane.proofs.Planes.{plane_same}
-use Rattle.dri_meaning.specs.PlainScripts.{drawn_plainly}
-use Rattle.dri_meaning.proofs.PlainDraws.{flat_fragment}
+use Rattle.dri_run.specs.PlainScripts.{drawn_plainly}
+use Rattle.dri_run.proofs.PlainDraws.{flat_fragment}
 use Rattle.dri_run.specs.Cards.{Cell, HoldsCells, after_command, after_commands, changed_in}
 
 -- a part of a cell that is changed where so

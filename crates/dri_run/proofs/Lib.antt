@@ -4,3 +4,4 @@ pub mod CardLemmas
 pub mod Visible
 pub mod OneFrames
 pub mod ShownFrames
+pub mod PlainDraws

@@ -12,9 +12,9 @@ use Rattle.dri_base.specs.declared.command.Command.TheVariants as command
 use Rattle.dri_base.specs.declared.scene.ClientScript.{ClientScript}
 use Rattle.dri_base.specs.declared.shape.Triangle.{Triangle}
 use Rattle.dri_base.specs.Ranges.{TriangleInRange}
-use Rattle.dri_meaning.specs.PlainScripts.{IsPlain, drawn_plainly}
+use Rattle.dri_run.specs.PlainScripts.{IsPlain, drawn_plainly}
 use Rattle.dri_meaning.specs.Solo.{frame, frame_from, solo, solo_between, solo_frame}
-use Rattle.dri_meaning.proofs.PlainDraws.{plain_at}
+use Rattle.dri_run.proofs.PlainDraws.{plain_at}
 use Rattle.dri_run.specs.Cards.{Cell, after_command, after_commands, opening_cell}
 use Rattle.dri_run.specs.Shapes.{IsOneFrame}
 

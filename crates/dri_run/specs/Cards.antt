@@ -8,7 +8,7 @@ use Rattle.dri_base.specs.declared.shape.ClipRect.{ClipRect}
 use Rattle.dri_base.specs.declared.shape.Point.{Point}
 use Rattle.dri_base.specs.Planes.{plane}
 use Rattle.dri_plane.specs.Grids.{Grid, in_rect}
-use Rattle.dri_meaning.specs.PlainScripts.{drawn_plainly}
+use Rattle.dri_run.specs.PlainScripts.{drawn_plainly}
 use Rattle.dri_meaning.specs.Solo.{blank}
 
 -- the colour in front, and the pair of colour and depth behind it

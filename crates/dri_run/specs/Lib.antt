@@ -6,3 +6,4 @@ pub mod Screen
 pub mod Cards
 pub mod Notices
 pub mod Outcome
+pub mod PlainScripts

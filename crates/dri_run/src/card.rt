@@ -5,7 +5,7 @@
 ghost use Rattle.std.specs.Prelude.{◌≡◌, ◌≤◌, ◌<◌, ℕ, ◌&&◌, ◌==◌, nat_le, nat_lt, pos, ◌-ℤ◌, if◌then◌else◌, IfOk, All};
 ghost use Rattle.dri_base.specs.Coverage.{covers};
 ghost use Rattle.dri_base.specs.Ranges.{TriangleInRange, IsSide};
-ghost use Rattle.dri_meaning.specs.PlainScripts.{IsPlain};
+ghost use Rattle.dri_run.specs.PlainScripts.{IsPlain};
 ghost use Rattle.dri_plane.specs.Grids.{Becomes, IsInside, in_rect, is_place};
 ghost use Rattle.dri_run.specs.Cards.{Cell, HaveSides, HoldsCells, IsOrigin, after_command, after_commands, changed_in, opening_cell};
 

@@ -1,7 +1,7 @@
 -- Each command by its own call.
 use Rattle.std.proofs.Common.{sym, subst, refl}
 use Rattle.dri_base.specs.declared.command.Command.TheVariants as command
-use Rattle.dri_meaning.specs.PlainScripts.{IsPlain}
+use Rattle.dri_run.specs.PlainScripts.{IsPlain}
 use Rattle.dri_run.specs.Cards.{HoldsCells, after_command, changed_in}
 use Rattle.dri_run.proofs.CardLemmas.{unchanged}
 use Rattle.dri_run.proofs.card.run.Goals as goal

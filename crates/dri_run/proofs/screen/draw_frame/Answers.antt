@@ -1,6 +1,6 @@
 -- In the window's part of the screen the frame drawn alone, elsewhere the root colour.
 use Rattle.std.proofs.Common.{All, sym, subst, rules}
-use Rattle.dri_meaning.specs.PlainScripts.{IsPlain}
+use Rattle.dri_run.specs.PlainScripts.{IsPlain}
 use Rattle.dri_run.specs.Cards.{opening_cell}
 use Rattle.dri_run.proofs.OneFrames.{plain_frame}
 use Rattle.dri_run.proofs.ShownFrames.{frame_is_shown}

@@ -11,7 +11,7 @@ use Rattle.dri_base.specs.Coverage.{covers}
 use Rattle.dri_base.specs.Fragments.{fragment, rules_of}
 use Rattle.dri_base.specs.declared.state.State.{State}
 use Rattle.dri_base.specs.States.{default_state, state_at, states}
-use Rattle.dri_meaning.specs.PlainScripts.{IsPlain, drawn_plainly}
+use Rattle.dri_run.specs.PlainScripts.{IsPlain, drawn_plainly}
 use Rattle.dri_meaning.specs.Solo.{drawn_at}
 
 -- a triangle in the default state: the third vertex's colour where it covers, and the depth stays
