@@ -1,5 +1,5 @@
 -- What a triangle leaves at a pixel, by its three tests.
-use Rattle.std.proofs.Common.{◌≡◌, ℕ, true, false, Option, ℤ, pos, neg_ℤ, refl, sym, arith}
+use Rattle.std.proofs.Common.{◌≡◌, ℕ, true, false, Option, ℤ, refl, sym, arith}
 use Rattle.std.proofs.lemmas.Int.{ints}
 use Rattle.dri_base.specs.declared.colour.Pixel.{Pixel}
 use Rattle.dri_base.specs.declared.colour.Rgb.{Rgb}

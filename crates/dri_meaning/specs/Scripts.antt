@@ -1,5 +1,5 @@
 -- What is asked of a script that is drawn alone, and of the place of a pixel in its window.
-use Rattle.std.specs.Prelude.{◌≡◌, ◌≤◌, ◌*◌, ◌≤ℤ◌, ℕ, ℤ, pos, List, length, get_or}
+use Rattle.std.specs.Prelude.{◌≡◌, ◌*◌, ◌≤ℤ◌, ℕ, ℤ, pos, length, get_or}
 use Rattle.dri_base.specs.declared.scene.ClientScript.{ClientScript}
 use Rattle.dri_base.specs.declared.texture.Texture.{Texture}
 use Rattle.dri_base.specs.Ranges.{CommandsInRange, IsWithin, TexturesInRange, texture_numbers}

@@ -1,5 +1,5 @@
 -- One more pixel at each turn.
-use Rattle.std.proofs.Common.{◌≡◌, ◌<◌, ◌*◌, ◌-◌, ◌%◌, ◌/◌, ◌∙◌, ℕ, suc, pos, to_z, w32, ap, arith, rules}
+use Rattle.std.proofs.Common.{◌≡◌, ◌<◌, ◌*◌, ◌-◌, ◌%◌, ◌/◌, ◌∙◌, suc, pos, to_z, w32, ap, arith, rules}
 use Rattle.std.proofs.Math.Nat.{mod-lt, div-lt_iff_lt-mul}
 use Rattle.std.proofs.lemmas.Int.{to_z_pos}
 use Rattle.dri_base.proofs.PlaneLists.{no_pixels, pixels_more}

@@ -1,6 +1,5 @@
 -- One more command at each turn.
-use Rattle.std.proofs.Common.{◌≡◌, ◌+◌, Some, w32, to_z, of_z, refl, subst, arith}
-use Rattle.std.proofs.lemmas.Int.{to_z-of_z}
+use Rattle.std.proofs.Common.{◌≡◌, ◌+◌, w32, to_z, of_z, refl, subst, arith}
 use Rattle.dri_base.specs.States.{state_at}
 use Rattle.dri_meaning.proofs.SoloPixels.{command_there, solo_on, state_after_on}
 use Rattle.dri_meaning.proofs.solo.solo.Goals as goal

@@ -1,0 +1,73 @@
+//! The actors that wait for the lock, in the order in which they came: a vector in fixed memory, with room for all 33.
+
+ghost use Rattle.std.specs.Prelude.{◌≡◌, ◌++◌, [], ◌∷◌, ◌↔◌, IsTrue, false, slice_get};
+ghost use Rattle.dri_kernel.specs.Waiting.{IsActor, is_queued, leaves};
+
+use arrayvec::ArrayVec;
+use std::marker::Model;
+
+/// The actors that wait, none of them twice: 0 is the server, 1 to 32 are the clients. Contracts see the list, the first
+/// first.
+#[derive(Drop)]
+pub struct Queue {
+    actors: ArrayVec<u32, 33>,
+}
+
+impl Model for Queue {
+    ghost use Rattle.std.specs.Prelude.{ℕ, List};
+    ghost use Rattle.dri_kernel.specs.Waiting.{IsQueue};
+
+    ghost Value = { List ℕ };
+
+    ghost view = { λ q. q.actors.items };
+
+    ghost invariant = { λ q. IsQueue q.actors.items };
+}
+
+impl Queue {
+    /// The queue in which nobody waits.
+    pub fn new() -> Queue
+        ensures { result ≡ [] }
+    {
+        Queue {
+            actors: ArrayVec::new(),
+        }
+    }
+
+    /// Puts an actor last, 0 to 32. It doesn't wait yet, so there is room for it.
+    pub fn join(&mut self, actor: u32)
+        requires actor { IsActor actor }
+        requires absent { is_queued actor self.old ≡ false }
+        ensures { self.new ≡ self.old ++ actor ∷ [] }
+    {
+        self.actors.push(actor);
+    }
+
+    /// The actor that came first, and `None` exactly where nobody waits.
+    pub fn front(&self) -> Option<u32>
+        ensures { result ≡ slice_get self.now 0 }
+    {
+        self.actors.first().copied()
+    }
+
+    /// Takes an actor out, and leaves the others in their order. Where it doesn't wait the queue stays as it was.
+    pub fn remove(&mut self, actor: u32)
+        ensures { self.new ≡ leaves actor self.old }
+    {
+        self.actors.retain(|other| *other != actor);
+    }
+
+    /// Whether the actor waits.
+    pub fn contains(&self, actor: u32) -> bool
+        ensures { result ≡ is_queued actor self.now }
+    {
+        self.actors.contains(&actor)
+    }
+
+    /// Whether nobody waits.
+    pub fn is_empty(&self) -> bool
+        ensures { IsTrue result ↔ (self.now ≡ []) }
+    {
+        self.actors.is_empty()
+    }
+}
