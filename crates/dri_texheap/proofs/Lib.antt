@@ -1,0 +1,6 @@
+pub mod Counted
+pub mod Classes
+pub mod Choosing
+pub mod Ordering
+pub mod Heaped
+pub mod Losing

@@ -1,0 +1,4 @@
+pub mod RegionStates
+pub mod Ring
+pub mod Placements
+pub mod Search
