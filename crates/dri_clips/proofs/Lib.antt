@@ -1,0 +1,9 @@
+pub mod Comparing
+pub mod Filling
+pub mod Gaining
+pub mod Painting
+pub mod Placing
+pub mod Restacking
+pub mod Stamping
+pub mod Telling
+pub mod Walking

@@ -1,0 +1,268 @@
+-- The stack after a change, by places.
+use Rattle.std.proofs.Common.{◌≡◌, ℕ, zero, suc, ◌<◌, ◌+◌, ◌-◌, length, set, take, drop, map, filter, List, [], ◌∷◌, ◌++◌, Bool, true, false, cond, arith, refl, sym, ◌∙◌, ap, subst, Option, None, Some, slice_get, is_some}
+use Rattle.std.specs.Prelude.{◌==◌, ◌&&◌, ℤ, nat_le, not, All, if◌then◌else◌, IfSome}
+use Rattle.std.specs.List.{insert, remove}
+use Rattle.std.proofs.lemmas.Bool.{true≢false, and_parts, eqb-true, leb-true}
+use Rattle.std.proofs.lemmas.Int.{ints}
+use Rattle.std.proofs.lemmas.List.{take_all, drop_all, length-append, length-take, length-drop}
+use Rattle.std.proofs.lemmas.List.Elements.{All-map, All-append, All-filter, All-weaker}
+use Rattle.indexmap.specs.IndexMap.{move_index}
+use Rattle.dri_base.specs.declared.scene.Window.{Window}
+use Rattle.dri_base.specs.Ranges.{IsPlace, IsSide, WindowInRange}
+use Rattle.dri_base.specs.declared.command.Change.{Change}
+use Rattle.dri_base.specs.declared.command.Change.TheVariants.{Map, Unmap, Move, Resize, Raise, Lower}
+use Rattle.dri_model.specs.Stacks.{Refusal, altered, changed, is_corner, is_side, named_by, refusal, refused_at, refused_for, stack_after, unless_refused, window_in, without_owner, unmapped}
+use Rattle.dri_clips.specs.Layouts.{AreApart, IsAbsent, IsPlaced, SameNumbers}
+use Rattle.dri_clips.specs.Refusals.{altered_by, destination}
+use Rattle.dri_clips.proofs.Placing.{placed_below, window_at, window_absent}
+
+-- where no window has the number nothing is altered, kept or left out
+altered_none : (n : ℕ) (f : Window → Window) (ws : List Window) → IsAbsent n ws → altered n f ws ≡ ws
+altered_none n f [] a = refl
+altered_none n f (w ∷ ws) a = rw a.0 (ap (λ vs. w ∷ vs) (altered_none n f ws a.1))
+
+kept_none : (n : ℕ) (ws : List Window) → IsAbsent n ws → filter (λ w. w.number == n) ws ≡ []
+kept_none n [] a = refl
+kept_none n (w ∷ ws) a = rw a.0 (kept_none n ws a.1)
+
+rest_all : (n : ℕ) (ws : List Window) → IsAbsent n ws → filter (λ w. not (w.number == n)) ws ≡ ws
+rest_all n [] a = refl
+rest_all n (w ∷ ws) a = rw a.0 (ap (λ vs. w ∷ vs) (rest_all n ws a.1))
+
+gone : (n : ℕ) (w : Window) (ws : List Window) → (w.number == n) ≡ true → IsAbsent w.number ws → IsAbsent n ws
+gone n w ws p a = subst (λ (k : ℕ). IsAbsent k ws) (eqb-true w.number n p) a
+
+-- one window is altered, kept or left out
+altered_one : (n i : ℕ) (f : Window → Window) (ws : List Window) (w : Window) → IsPlaced n i ws → AreApart ws → slice_get ws i ≡ Some w → altered n f ws ≡ set ws i (f w)
+altered_one n i f [] w p a e = absurd p
+altered_one n zero f (v ∷ ws) w p a e = let same : v ≡ w = cc in rw p (ap (λ vs. f v ∷ vs) (altered_none n f ws (gone n v ws p a.0)) ∙ ap (λ (u : Window). f u ∷ ws) same)
+altered_one n (suc i) f (v ∷ ws) w p a e = rw p.0 (ap (λ vs. v ∷ vs) (altered_one n i f ws w p.1 a.1 e))
+
+kept_one : (n i : ℕ) (ws : List Window) (w : Window) → IsPlaced n i ws → AreApart ws → slice_get ws i ≡ Some w → filter (λ v. v.number == n) ws ≡ w ∷ []
+kept_one n i [] w p a e = absurd p
+kept_one n zero (v ∷ ws) w p a e = let same : v ≡ w = cc in rw p (ap (λ vs. v ∷ vs) (kept_none n ws (gone n v ws p a.0)) ∙ ap (λ (u : Window). u ∷ []) same)
+kept_one n (suc i) (v ∷ ws) w p a e = rw p.0 (kept_one n i ws w p.1 a.1 e)
+
+rest_one : (n i : ℕ) (ws : List Window) → IsPlaced n i ws → AreApart ws → filter (λ v. not (v.number == n)) ws ≡ remove ws i
+rest_one n i [] p a = absurd p
+rest_one n zero (v ∷ ws) p a = rw p (rest_all n ws (gone n v ws p a.0))
+rest_one n (suc i) (v ∷ ws) p a = rw p.0 (ap (λ vs. v ∷ vs) (rest_one n i ws p.1 a.1))
+
+-- a window moved to its own place, to the top and to the bottom
+put_back : {X : Type 0} (xs : List X) (i : ℕ) (x : X) → slice_get xs i ≡ Some x → insert (remove xs i) i x ≡ xs
+put_back [] i x e = absurd (true≢false (ap (λ o. is_some o) (sym e)))
+put_back (y ∷ xs) zero x e = let same : y ≡ x = cc in ap (λ z. z ∷ xs) (sym same)
+put_back (y ∷ xs) (suc i) x e = ap (λ ys. y ∷ ys) (put_back xs i x e)
+
+put_last : {X : Type 0} (xs : List X) (n : ℕ) (x : X) → length xs ≡ n → insert xs n x ≡ xs ++ x ∷ []
+put_last xs n x e = (λ j. take_all n xs (omega arith) j ++ x ∷ drop_all n xs (omega arith) j)
+
+length_removed : {X : Type 0} (xs : List X) (i : ℕ) → i < length xs → length (remove xs i) ≡ length xs - 1
+length_removed xs i below =
+    let a = length-append (take i xs) (drop (suc i) xs) in
+    let t = length-take i xs in
+    let d = length-drop (suc i) xs in
+    omega arith
+
+pub move_by : {X : Type 0} (xs : List X) (i j : ℕ) (x : X) → slice_get xs i ≡ Some x → move_index xs i j ≡ insert (remove xs i) j x
+move_by xs i j x e = rw e refl
+
+got_set : {X : Type 0} (xs : List X) (i : ℕ) (x y : X) → slice_get xs i ≡ Some y → slice_get (set xs i x) i ≡ Some x
+got_set [] i x y e = absurd (true≢false (ap (λ o. is_some o) (sym e)))
+got_set (z ∷ xs) zero x y e = refl
+got_set (z ∷ xs) (suc i) x y e = got_set xs i x y e
+
+set_same : {X : Type 0} (xs : List X) (i : ℕ) (x : X) → slice_get xs i ≡ Some x → set xs i x ≡ xs
+set_same [] i x e = refl
+set_same (y ∷ xs) zero x e = let same : y ≡ x = cc in ap (λ z. z ∷ xs) (sym same)
+set_same (y ∷ xs) (suc i) x e = ap (λ ys. y ∷ ys) (set_same xs i x e)
+
+in_place : (n i : ℕ) (f : Window → Window) (ws : List Window) (w : Window) → IsPlaced n i ws → AreApart ws → slice_get ws i ≡ Some w → move_index (set ws i (f w)) i i ≡ altered n f ws
+in_place n i f ws w p a e =
+    let got = got_set ws i (f w) w e in
+    move_by (set ws i (f w)) i i (f w) got ∙ put_back (set ws i (f w)) i (f w) got ∙ sym (altered_one n i f ws w p a e)
+
+pub changed_at : (change : Change) (i : ℕ) (ws : List Window) (w : Window) → IsPlaced (named_by change) i ws → AreApart ws → slice_get ws i ≡ Some w →
+    move_index (set ws i (altered_by change w)) i (destination change i (length ws - 1)) ≡ changed change ws
+changed_at (Map n) i ws w p a e = in_place n i (λ v. record v { mapped = true }) ws w p a e
+changed_at (Unmap n) i ws w p a e = in_place n i (λ v. record v { mapped = false }) ws w p a e
+changed_at (Move n x y) i ws w p a e = in_place n i (λ v. record v { x = x; y = y }) ws w p a e
+changed_at (Resize n width height) i ws w p a e = in_place n i (λ v. record v { width = width; height = height }) ws w p a e
+changed_at (Raise n) i ws w p a e = rw (set_same ws i w e) (move_by ws i 0 w e ∙ (λ j. sym (kept_one n i ws w p a e) j ++ sym (rest_one n i ws p a) j))
+changed_at (Lower n) i ws w p a e =
+    rw (set_same ws i w e) (move_by ws i (length ws - 1) w e ∙ put_last (remove ws i) (length ws - 1) w (length_removed ws i (placed_below n i ws p)) ∙ (λ j. sym (rest_one n i ws p a) j ++ sym (kept_one n i ws w p a e) j))
+
+-- an owner's windows, one after another
+pub unmapped_more : (c i j : ℕ) (ws : List Window) (w : Window) (vs ns : List Window) → j ≡ i + 1 → slice_get ws i ≡ Some w → vs ≡ map (unmapped c) (take i ws) ++ drop i ws → ns ≡ set vs i (unmapped c w) → ns ≡ map (unmapped c) (take j ws) ++ drop j ws
+unmapped_more c i j ws w vs ns e at before new = new ∙ ap (λ (us : List Window). set us i (unmapped c w)) before ∙ by i ws at ∙ ap (λ (k : ℕ). map (unmapped c) (take k ws) ++ drop k ws) (let s : suc i ≡ j = omega arith in s)
+  where
+    by : (k : ℕ) (us : List Window) → slice_get us k ≡ Some w → set (map (unmapped c) (take k us) ++ drop k us) k (unmapped c w) ≡ map (unmapped c) (take (suc k) us) ++ drop (suc k) us
+    by k [] f = absurd (true≢false (ap (λ o. is_some o) (sym f)))
+    by zero (u ∷ us) f = let same : u ≡ w = cc in ap (λ (v : Window). unmapped c v ∷ us) (sym same)
+    by (suc k) (u ∷ us) f = ap (λ ts. unmapped c u ∷ ts) (by k us f)
+
+-- the windows are still the same
+mapped_absent : (f : Window → Window) → ((w : Window) → (f w).number ≡ w.number) → (n : ℕ) (ws : List Window) → (IsAbsent n ws → IsAbsent n (map f ws)) × (IsAbsent n (map f ws) → IsAbsent n ws)
+mapped_absent f same n [] = (λ a. tt, λ a. tt)
+mapped_absent f same n (w ∷ ws) =
+    let rest = mapped_absent f same n ws in
+    (λ a. (ap (λ (k : ℕ). k == n) (same w) ∙ a.0, rest.0 a.1), λ a. (ap (λ (k : ℕ). k == n) (sym (same w)) ∙ a.0, rest.1 a.1))
+
+pub map_numbers : (f : Window → Window) → ((w : Window) → (f w).number ≡ w.number) → (ws : List Window) → SameNumbers ws (map f ws)
+map_numbers f same ws n = mapped_absent f same n ws
+
+absent_append : (n : ℕ) (us vs : List Window) → IsAbsent n us → IsAbsent n vs → IsAbsent n (us ++ vs)
+absent_append n [] vs a b = b
+absent_append n (u ∷ us) vs a b = (a.0, absent_append n us vs a.1 b)
+
+absent_left : (n : ℕ) (us vs : List Window) → IsAbsent n (us ++ vs) → IsAbsent n us
+absent_left n [] vs a = tt
+absent_left n (u ∷ us) vs a = (a.0, absent_left n us vs a.1)
+
+absent_right : (n : ℕ) (us vs : List Window) → IsAbsent n (us ++ vs) → IsAbsent n vs
+absent_right n [] vs a = a
+absent_right n (u ∷ us) vs a = absent_right n us vs a.1
+
+absent_filter : (p : Window → Bool) (n : ℕ) (ws : List Window) → IsAbsent n ws → IsAbsent n (filter p ws)
+absent_filter p n [] a = tt
+absent_filter p n (w ∷ ws) a = by (p w) (absent_filter p n ws a.1)
+  where
+    by : (b : Bool) → IsAbsent n (filter p ws) → IsAbsent n (cond b (w ∷ filter p ws) (filter p ws))
+    by true r = (a.0, r)
+    by false r = r
+
+absent_filters : (p : Window → Bool) (n : ℕ) (ws : List Window) → IsAbsent n (filter p ws) → IsAbsent n (filter (λ w. not (p w)) ws) → IsAbsent n ws
+absent_filters p n [] a b = tt
+absent_filters p n (w ∷ ws) a b = by (p w) a b (λ f g. absent_filters p n ws f g)
+  where
+    by : (t : Bool) → IsAbsent n (cond t (w ∷ filter p ws) (filter p ws)) → IsAbsent n (cond (not t) (w ∷ filter (λ v. not (p v)) ws) (filter (λ v. not (p v)) ws)) → (IsAbsent n (filter p ws) → IsAbsent n (filter (λ v. not (p v)) ws) → IsAbsent n ws) → IsAbsent n (w ∷ ws)
+    by true f g more = (f.0, more f.1 g)
+    by false f g more = (g.0, more f g.1)
+
+altered_number : (n : ℕ) (f : Window → Window) → ((w : Window) → (f w).number ≡ w.number) → (w : Window) → (if w.number == n then f w else w).number ≡ w.number
+altered_number n f same w = by (w.number == n) refl
+  where
+    by : (b : Bool) → (w.number == n) ≡ b → (if w.number == n then f w else w).number ≡ w.number
+    by true e = rw e (same w)
+    by false e = rw e refl
+
+altered_numbers : (n : ℕ) (f : Window → Window) → ((w : Window) → (f w).number ≡ w.number) → (ws : List Window) → SameNumbers ws (altered n f ws)
+altered_numbers n f same ws = map_numbers (λ w. if w.number == n then f w else w) (altered_number n f same) ws
+
+pub changed_numbers : (change : Change) (ws : List Window) → SameNumbers ws (changed change ws)
+changed_numbers (Map n) ws = altered_numbers n (λ w. record w { mapped = true }) (λ w. refl) ws
+changed_numbers (Unmap n) ws = altered_numbers n (λ w. record w { mapped = false }) (λ w. refl) ws
+changed_numbers (Move n x y) ws = altered_numbers n (λ w. record w { x = x; y = y }) (λ w. refl) ws
+changed_numbers (Resize n width height) ws = altered_numbers n (λ w. record w { width = width; height = height }) (λ w. refl) ws
+changed_numbers (Raise n) ws = λ m. (
+  λ a. absent_append m (filter (λ w. w.number == n) ws) (filter (λ w. not (w.number == n)) ws) (absent_filter (λ w. w.number == n) m ws a) (absent_filter (λ w. not (w.number == n)) m ws a),
+  λ a. absent_filters (λ w. w.number == n) m ws (absent_left m (filter (λ w. w.number == n) ws) (filter (λ w. not (w.number == n)) ws) a) (absent_right m (filter (λ w. w.number == n) ws) (filter (λ w. not (w.number == n)) ws) a),
+)
+changed_numbers (Lower n) ws = λ m. (
+  λ a. absent_append m (filter (λ w. not (w.number == n)) ws) (filter (λ w. w.number == n) ws) (absent_filter (λ w. not (w.number == n)) m ws a) (absent_filter (λ w. w.number == n) m ws a),
+  λ a. absent_filters (λ w. w.number == n) m ws (absent_right m (filter (λ w. not (w.number == n)) ws) (filter (λ w. w.number == n) ws) a) (absent_left m (filter (λ w. not (w.number == n)) ws) (filter (λ w. w.number == n) ws) a),
+)
+
+pub destination_below : (change : Change) (i n : ℕ) → i < n → destination change i (n - 1) < n
+destination_below (Map n) i k b = b
+destination_below (Unmap n) i k b = b
+destination_below (Move n x y) i k b = b
+destination_below (Resize n width height) i k b = b
+destination_below (Raise n) i k b = omega arith
+destination_below (Lower n) i k b = omega arith
+
+unmapped_number : (c : ℕ) (w : Window) → (unmapped c w).number ≡ w.number
+unmapped_number c w = by (w.owner == c) refl
+  where
+    by : (b : Bool) → (w.owner == c) ≡ b → (if w.owner == c then record w { mapped = false } else w).number ≡ w.number
+    by true e = rw e refl
+    by false e = rw e refl
+
+pub without_numbers : (c : ℕ) (ws : List Window) → SameNumbers ws (without_owner c ws)
+without_numbers c ws = map_numbers (unmapped c) (unmapped_number c) ws
+
+got_mixed : (f : Window → Window) (i : ℕ) (ws : List Window) (w : Window) → slice_get ws i ≡ Some w → slice_get (map f (take i ws) ++ drop i ws) i ≡ Some w
+got_mixed f i [] w e = absurd (true≢false (ap (λ o. is_some o) (sym e)))
+got_mixed f zero (v ∷ ws) w e = e
+got_mixed f (suc i) (v ∷ ws) w e = got_mixed f i ws w e
+
+pub owner_same : (c i : ℕ) (ws : List Window) (w u : Window) (vs : List Window) → slice_get ws i ≡ Some w → vs ≡ map (unmapped c) (take i ws) ++ drop i ws → u ≡ unmapped c w → IfSome (slice_get vs i) (λ v. u.number ≡ v.number)
+owner_same c i ws w u vs at before e = rw (before, got_mixed (unmapped c) i ws w at) (ap (λ (v : Window). v.number) e ∙ unmapped_number c w)
+
+-- refusals
+pub refused_absent : (change : Change) (ws : List Window) → IsAbsent (named_by change) ws → refusal change ws ≡ Some Refusal.NoWindow
+refused_absent change ws a = ap (refused_for change) (window_absent (named_by change) ws a)
+
+pub refused_here : (change : Change) (i : ℕ) (ws : List Window) (w : Window) → IsPlaced (named_by change) i ws → slice_get ws i ≡ Some w → refusal change ws ≡ refused_at change w
+refused_here change i ws w p e = ap (refused_for change) (window_at (named_by change) i ws p ∙ e)
+
+pub after_allowed : (change : Change) (ws : List Window) → refusal change ws ≡ None → changed change ws ≡ stack_after change ws
+after_allowed change ws e = rw e refl
+
+-- numbers that a change may bring
+allowed : (b : Bool) → (if b then None else Some Refusal.OutOfRange) ≡ None → b ≡ true
+allowed true e = refl
+allowed false e = absurd (true≢false (ap (λ o. is_some o) e))
+
+corner : (v : ℤ) → is_corner v ≡ true → IsPlace v
+corner v e = (grind (arith, ints), grind (arith, ints))
+
+side : (n : ℕ) → is_side n ≡ true → IsSide n
+side n e = let p = and_parts (nat_le 1 n) (nat_le n 1024) e in (leb-true 1 n p.0, leb-true n 1024 p.1)
+
+corners : (x y : ℤ) → (if is_corner x && is_corner y then None else Some Refusal.OutOfRange) ≡ None → IsPlace x × IsPlace y
+corners x y e = let p = and_parts (is_corner x) (is_corner y) (allowed (is_corner x && is_corner y) e) in (corner x p.0, corner y p.1)
+
+sides : (m n : ℕ) → (if is_side m && is_side n then None else Some Refusal.OutOfRange) ≡ None → IsSide m × IsSide n
+sides m n e = let p = and_parts (is_side m) (is_side n) (allowed (is_side m && is_side n) e) in (side m p.0, side n p.1)
+
+-- windows in range stay so
+pub without_ranged : (c : ℕ) (ws : List Window) → All WindowInRange ws → All WindowInRange (without_owner c ws)
+without_ranged c ws all = All-map WindowInRange (unmapped c) ws (All-weaker WindowInRange (λ w. WindowInRange (unmapped c w)) one ws all)
+  where
+    one : (w : Window) → WindowInRange w → WindowInRange (unmapped c w)
+    one w r = by (w.owner == c)
+      where
+        by : (b : Bool) → WindowInRange (if b then record w { mapped = false } else w)
+        by true = record { numbered = r.numbered; left = r.left; top = r.top; wide = r.wide; high = r.high; owned = r.owned }
+        by false = r
+
+altered_ranged : (n : ℕ) (f : Window → Window) (ws : List Window) → ((w : Window) → WindowInRange w → WindowInRange (f w)) → All WindowInRange ws → All WindowInRange (altered n f ws)
+altered_ranged n f ws g all = All-map WindowInRange (λ w. if w.number == n then f w else w) ws (All-weaker WindowInRange (λ w. WindowInRange (if w.number == n then f w else w)) one ws all)
+  where
+    one : (w : Window) → WindowInRange w → WindowInRange (if w.number == n then f w else w)
+    one w r = by (w.number == n)
+      where
+        by : (b : Bool) → WindowInRange (if b then f w else w)
+        by true = g w r
+        by false = r
+
+pub changed_ranged : (change : Change) (w : Window) (ws : List Window) → refused_at change w ≡ None → All WindowInRange ws → All WindowInRange (changed change ws)
+changed_ranged (Map n) v ws e all = altered_ranged n (λ w. record w { mapped = true }) ws (λ w r. record { numbered = r.numbered; left = r.left; top = r.top; wide = r.wide; high = r.high; owned = r.owned }) all
+changed_ranged (Unmap n) v ws e all = altered_ranged n (λ w. record w { mapped = false }) ws (λ w r. record { numbered = r.numbered; left = r.left; top = r.top; wide = r.wide; high = r.high; owned = r.owned }) all
+changed_ranged (Move n x y) v ws e all =
+    let p = corners x y e in
+    altered_ranged n (λ w. record w { x = x; y = y }) ws (λ w r. record { numbered = r.numbered; left = p.0; top = p.1; wide = r.wide; high = r.high; owned = r.owned }) all
+changed_ranged (Resize n width height) v ws e all =
+    let p = sides width height e in
+    altered_ranged n (λ w. record w { width = width; height = height }) ws (λ w r. record { numbered = r.numbered; left = r.left; top = r.top; wide = p.0; high = p.1; owned = r.owned }) all
+changed_ranged (Raise n) v ws e all = All-append WindowInRange (filter (λ w. w.number == n) ws) (filter (λ w. not (w.number == n)) ws) (All-filter (λ w. w.number == n) WindowInRange ws all) (All-filter (λ w. not (w.number == n)) WindowInRange ws all)
+changed_ranged (Lower n) v ws e all = All-append WindowInRange (filter (λ w. not (w.number == n)) ws) (filter (λ w. w.number == n) ws) (All-filter (λ w. not (w.number == n)) WindowInRange ws all) (All-filter (λ w. w.number == n) WindowInRange ws all)
+
+pub after_numbers : (change : Change) (ws : List Window) → SameNumbers ws (stack_after change ws)
+after_numbers change ws = by (refusal change ws)
+  where
+    by : (o : Option Refusal) → SameNumbers ws (unless_refused o ws (changed change ws))
+    by None = changed_numbers change ws
+    by (Some why) = λ n. (λ a. a, λ a. a)
+
+pub after_ranged : (change : Change) (ws : List Window) → All WindowInRange ws → All WindowInRange (stack_after change ws)
+after_ranged change ws all = by (refusal change ws) refl
+  where
+    seen : (o : Option Window) → refused_for change o ≡ None → All WindowInRange (changed change ws)
+    seen None e = absurd (true≢false (ap (λ o. is_some o) e))
+    seen (Some w) e = changed_ranged change w ws e all
+
+    by : (o : Option Refusal) → refusal change ws ≡ o → All WindowInRange (unless_refused o ws (changed change ws))
+    by None e = seen (window_in ws (named_by change)) e
+    by (Some why) e = all

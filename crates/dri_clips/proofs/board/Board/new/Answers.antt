@@ -1,0 +1,16 @@
+use Rattle.std.proofs.Common.{◌∙◌, refl}
+use Rattle.dri_clips.proofs.Placing.{apart_pairs, ones}
+use Rattle.dri_clips.proofs.board.Board.new.Goals as goal
+
+pub from_windows-requires : goal.from_windows-requires
+from_windows-requires c = rw c.as_slice.ensures (apart_pairs c.args.scene.now.windows c.requires.windowed.apart)
+
+pub returns : goal.returns
+returns c = record {
+  width = c.in_ok-new.ensures.width;
+  height = c.in_ok-new.ensures.height;
+  root = refl;
+  stack = c.in_ok-new.ensures.stack ∙ c.in_ok-stack.ensures ∙ c.as_slice.ensures;
+  stamps = λ i n. ones 65 n i;
+  counter = refl;
+}

@@ -1,0 +1,5 @@
+pub mod Boards
+pub mod Gains
+pub mod Layouts
+pub mod Paints
+pub mod Refusals

@@ -1,0 +1,154 @@
+//! The board. It keeps the window stack, a clip list for each window, and a stamp for each window number.
+
+ghost use Rattle.std.specs.Prelude.{◌≡◌, ◌≤◌, ◌↔◌, None, Some, Err, IfOk, OnOk, OnErr, All, Contains};
+ghost use Rattle.dri_base.specs.Ranges.{InRange, WindowInRange, WindowsInRange, window_numbers};
+ghost use Rattle.dri_model.specs.Stacks.{Refusal, origin, refusal, stack_after, window_in, without_owner};
+ghost use Rattle.dri_clips.specs.declared.change.ChangeFault.TheVariants.{NoWindow, OutOfRange, AlreadyMapped, NotMapped};
+ghost use Rattle.dri_clips.specs.Boards.{AreClipsOf, IsOpening, IsRestacked, is_mapped, stamps_of};
+ghost use Rattle.dri_clips.specs.Layouts.{SameNumbers};
+ghost use Rattle.dri_clips.specs.Paints.{IsTouched};
+
+#[cfg(test)]
+mod tests;
+
+use crate::change::{changed, place_to_change, without_owner};
+use crate::layout::Layout;
+use crate::paints::paints;
+use crate::stack::Stack;
+use crate::stamps::restamp;
+use crate::{ChangeFault, Touched};
+use dri_base::{Change, OutOfMemory, Point, Rgb, Scene};
+use dri_rect::Region;
+use std::alloc::Global;
+use std::marker::Model;
+
+/// The window stack of a screen with what shows of each window, and a stamp for each window number.
+#[derive(Drop)]
+pub struct Board {
+    root: Rgb,
+    layout: Layout,
+    stamps: [u32; 65],
+    counter: u32,
+}
+
+impl Model for Board {
+    ghost use Rattle.std.specs.Prelude.{◌≡◌, length};
+    ghost use Rattle.dri_clips.specs.Boards.{Screen};
+    ghost use Rattle.dri_clips.specs.Layouts.{IsLayout};
+
+    ghost Value = { Screen };
+
+    ghost view = { λ b. record { width = b.layout.width; height = b.layout.height; root = b.root; stack = b.layout.stack; stamps = b.stamps; counter = b.counter } };
+
+    ghost invariant = { λ b. IsLayout b.layout × (length b.stamps ≡ 65) };
+}
+
+impl Board {
+    /// The board of a scene before the first change. The scene is in range.
+    pub fn new(alloc: Global, scene: &Scene) -> Result<Board, OutOfMemory>
+        requires { InRange scene.now }
+        ensures { IfOk result (IsOpening scene.now) }
+    {
+        let stack = Stack::from_windows(alloc, scene.windows.as_slice())?;
+        Ok(Board {
+            root: scene.root,
+            layout: Layout::new(alloc, scene.width, scene.height, stack)?,
+            stamps: [1; 65],
+            counter: 1,
+        })
+    }
+
+    /// Puts a new stack in place, and tells what it touches.
+    fn restack(&mut self, alloc: Global, stack: Stack) -> Result<Touched, OutOfMemory>
+        requires counter { self.old.counter ≤ 4294967231 }
+        requires ranged { All WindowInRange stack }
+        requires numbers { SameNumbers self.old.stack stack }
+        ensures ok { OnOk result (IsRestacked stack self.old self.new) }
+        ensures touched { IfOk result (IsTouched self.old stack) }
+        ensures err { OnErr result (self.new ≡ self.old) }
+    {
+        let layout = Layout::new(alloc, self.layout.width, self.layout.height, stack)?;
+        let new = restamp(alloc, &self.layout, &layout, &self.stamps, self.counter)?;
+        let paints = paints(alloc, self.root, &self.layout, &layout)?;
+        self.layout = layout;
+        let stamps = new.stamps;
+        self.stamps = stamps;
+        self.counter = new.counter;
+        Ok(Touched {
+            windows: new.touched,
+            paints,
+        })
+    }
+
+    /// Makes a change, and tells what it touched. The windows touched get new stamps, by rising number. A change that is
+    /// refused, or for which memory is wanting, leaves the board as it was. The stamp counter is at most 4,294,967,231.
+    pub fn apply(&mut self, alloc: Global, change: &Change) -> Result<Touched, ChangeFault>
+        requires { self.old.counter ≤ 4294967231 }
+        ensures allowed { OnOk result (refusal change.now self.old.stack ≡ None) }
+        ensures ok { OnOk result (IsRestacked (stack_after change.now self.old.stack) self.old self.new) }
+        ensures touched { IfOk result (IsTouched self.old (stack_after change.now self.old.stack)) }
+        ensures no_window { (result ≡ Err NoWindow) ↔ (refusal change.now self.old.stack ≡ Some Refusal.NoWindow) }
+        ensures out_of_range { (result ≡ Err OutOfRange) ↔ (refusal change.now self.old.stack ≡ Some Refusal.OutOfRange) }
+        ensures already_mapped { (result ≡ Err AlreadyMapped) ↔ (refusal change.now self.old.stack ≡ Some Refusal.AlreadyMapped) }
+        ensures not_mapped { (result ≡ Err NotMapped) ↔ (refusal change.now self.old.stack ≡ Some Refusal.NotMapped) }
+        ensures err { OnErr result (self.new ≡ self.old) }
+    {
+        let at = place_to_change(&self.layout.stack, change)?;
+        let stack = changed(&self.layout.stack, at, change)?;
+        Ok(self.restack(alloc, stack)?)
+    }
+
+    /// Unmaps each window of an owner, as one change, and tells what it touched. Where memory is wanting the board stays
+    /// as it was. The stamp counter is at most 4,294,967,231.
+    pub fn unmap_owner(&mut self, alloc: Global, owner: u32) -> Result<Touched, OutOfMemory>
+        requires { self.old.counter ≤ 4294967231 }
+        ensures ok { OnOk result (IsRestacked (without_owner owner self.old.stack) self.old self.new) }
+        ensures touched { IfOk result (IsTouched self.old (without_owner owner self.old.stack)) }
+        ensures err { OnErr result (self.new ≡ self.old) }
+    {
+        let stack = without_owner(&self.layout.stack, owner)?;
+        self.restack(alloc, stack)
+    }
+
+    /// The stamp of a window that is on the board.
+    pub fn stamp(&self, window: u32) -> u32
+        requires { Contains (window_numbers self.now.stack) window }
+        ensures { result ≡ stamps_of self.now window }
+    {
+        self.stamps[window as usize]
+    }
+
+    /// The pixels of the screen at which a window shows that is on the board.
+    pub fn clips(&self, window: u32) -> &Region
+        requires { Contains (window_numbers self.now.stack) window }
+        ensures { AreClipsOf self.now window result.now }
+    {
+        let at = self.layout.stack.place(window).unwrap();
+        &self.layout.clips[at]
+    }
+
+    /// The upper left corner of a window that is on the board.
+    pub fn origin(&self, window: u32) -> Point
+        requires { Contains (window_numbers self.now.stack) window }
+        ensures { (result.x, result.y) ≡ origin self.now.stack window }
+    {
+        self.layout.origin(window)
+    }
+
+    /// Whether a window that is on the board is mapped.
+    pub fn mapped(&self, window: u32) -> bool
+        requires { Contains (window_numbers self.now.stack) window }
+        ensures { result ≡ is_mapped (window_in self.now.stack window) }
+    {
+        let at = self.layout.stack.place(window).unwrap();
+        self.layout.stack.window(at).mapped
+    }
+
+    /// How the windows stand: each of them is in range, and no number stands twice. It does nothing: its contract is the
+    /// law.
+    pub fn arranged(&self)
+        ensures { WindowsInRange self.now.stack }
+    {
+        let _layout = &self.layout;
+    }
+}

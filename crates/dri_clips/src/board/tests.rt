@@ -1,0 +1,154 @@
+//! Two windows of 2 by 2 on a screen of 2 by 2: what each change touches, and which changes are refused.
+
+use crate::{Board, ChangeFault, Paint, Touched};
+use dri_base::{Change, ClipRect, OutOfMemory, Point, Rgb, Scene, Sequence, Window};
+use std::alloc::Global;
+use std::test::Fail;
+
+fn grey(level: u8) -> Rgb {
+    Rgb {
+        r: level,
+        g: level,
+        b: level,
+    }
+}
+
+/// A window of 2 by 2 in the screen's corner.
+fn window(number: u32, owner: u32, background: Rgb) -> Window {
+    Window {
+        number,
+        x: 0,
+        y: 0,
+        width: 2,
+        height: 2,
+        background,
+        owner,
+        mapped: true,
+    }
+}
+
+/// Window 1, which client 1 owns, over window 2.
+fn board(alloc: Global) -> Result<Board, OutOfMemory> {
+    let mut windows = Sequence::new(alloc);
+    windows.push(window(1, 1, grey(0x11)))?;
+    windows.push(window(2, 0, grey(0x22)))?;
+    let scene = Scene {
+        width: 2,
+        height: 2,
+        root: grey(0x33),
+        regions: 1,
+        region_size: 256,
+        windows,
+        clients: Sequence::new(alloc),
+        changes: Sequence::new(alloc),
+        turns: Sequence::new(alloc),
+    };
+    if !scene.in_range() {
+        return Err(OutOfMemory);
+    }
+    Board::new(alloc, &scene)
+}
+
+/// Makes a change of a board whose stamps are small.
+fn apply(alloc: Global, board: &mut Board, change: &Change) -> Result<Touched, ChangeFault> {
+    if board.counter > 100 {
+        return Err(ChangeFault::OutOfMemory);
+    }
+    board.apply(alloc, change)
+}
+
+/// A window's stamp, how many rectangles show of it, its corner, and whether it is mapped.
+#[derive(Clone, Copy, Debug, PartialEq, Eq)]
+struct Seen {
+    stamp: u32,
+    rects: usize,
+    origin: Point,
+    mapped: bool,
+}
+
+fn look_at(board: &Board, number: u32) -> Option<Seen> {
+    board.layout.stack.place(number)?;
+    Some(Seen {
+        stamp: board.stamp(number),
+        rects: board.clips(number).len(),
+        origin: board.origin(number),
+        mapped: board.mapped(number),
+    })
+}
+
+/// What is seen of a window in the screen's corner.
+fn in_corner(stamp: u32, rects: usize, mapped: bool) -> Option<Seen> {
+    Some(Seen {
+        stamp,
+        rects,
+        origin: Point { x: 0, y: 0 },
+        mapped,
+    })
+}
+
+/// Whether both windows are touched and the whole screen is painted in this colour.
+fn paints_all(touched: &Touched, colour: Rgb) -> bool {
+    let whole = ClipRect {
+        x1: 0,
+        y1: 0,
+        x2: 2,
+        y2: 2,
+    };
+    let numbers = touched.windows.as_slice() == [1, 2].as_slice();
+    let paint = Paint {
+        rect: whole,
+        colour,
+    };
+    numbers && touched.paints.as_slice() == [paint].as_slice()
+}
+
+#[test]
+fn stamps_and_paints(rt: HostRuntime) -> Result<(), Fail> {
+    let alloc = rt.alloc();
+    let mut board = board(alloc)?;
+    let raised = apply(alloc, &mut board, &Change::Raise { window: 2 })?;
+    assert!(rt; paints_all(&raised, grey(0x22)));
+    assert!(rt; look_at(&board, 1) == in_corner(2, 0, true));
+    assert!(rt; look_at(&board, 2) == in_corner(3, 1, true));
+    let lowered = apply(alloc, &mut board, &Change::Lower { window: 2 })?;
+    assert!(rt; paints_all(&lowered, grey(0x11)));
+    assert!(rt; look_at(&board, 1) == in_corner(4, 1, true));
+    assert!(rt; look_at(&board, 2) == in_corner(5, 0, true));
+    board.arranged();
+    Ok(())
+}
+
+#[test]
+fn death(rt: HostRuntime) -> Result<(), Fail> {
+    let alloc = rt.alloc();
+    let mut board = board(alloc)?;
+    if board.counter == 1 {
+        let died = board.unmap_owner(alloc, 1)?;
+        assert!(rt; paints_all(&died, grey(0x22)));
+    }
+    assert!(rt; look_at(&board, 1) == in_corner(2, 0, false));
+    assert!(rt; look_at(&board, 2) == in_corner(3, 1, true));
+    Ok(())
+}
+
+#[test]
+fn refusals(rt: HostRuntime) -> Result<(), Fail> {
+    let alloc = rt.alloc();
+    let mut board = board(alloc)?;
+    let absent = apply(alloc, &mut board, &Change::Raise { window: 9 });
+    assert!(rt; matches!(absent, Err(ChangeFault::NoWindow)));
+    let far = Change::Move {
+        window: 1,
+        x: 1025,
+        y: 0,
+    };
+    let moved = apply(alloc, &mut board, &far);
+    assert!(rt; matches!(moved, Err(ChangeFault::OutOfRange)));
+    let map = apply(alloc, &mut board, &Change::Map { window: 1 });
+    assert!(rt; matches!(map, Err(ChangeFault::AlreadyMapped)));
+    let first = apply(alloc, &mut board, &Change::Unmap { window: 1 });
+    assert!(rt; first.is_ok());
+    let second = apply(alloc, &mut board, &Change::Unmap { window: 1 });
+    assert!(rt; matches!(second, Err(ChangeFault::NotMapped)));
+    Ok(())
+}
