@@ -1,0 +1,172 @@
+//! The fields of the shared area, by their bytes and their ranges. Reading and writing go by these same lists.
+
+ghost use Rattle.std.specs.Prelude.{◌≡◌, ◌≤◌, [], ◌∷◌};
+ghost use Rattle.dri_sarea.specs.Layouts.{bytes_in, holds, byte, number, drawable_fields, entry_fields};
+ghost use Rattle.dri_sarea.specs.declared.layout.Range.TheVariants.{Any, Within, RegionSize};
+
+/// How many bytes an image has.
+pub const LENGTH: usize = 8192;
+
+/// Where the drawables begin.
+pub const DRAWABLES: usize = 128;
+
+/// Where the frame begins, with which the numbers begin.
+pub const FRAME: usize = 2176;
+
+/// Where the frame's width stands.
+pub const WIDTH: usize = 2184;
+
+/// Where the frame's height stands.
+pub const HEIGHT: usize = 2188;
+
+/// Where the owner stands.
+pub const OWNER: usize = 2200;
+
+/// Where the global age stands.
+pub const AGE: usize = 2204;
+
+/// Where the number of regions stands.
+pub const REGION_COUNT: usize = 2208;
+
+/// Where the size of a region stands.
+pub const REGION_SIZE: usize = 2212;
+
+/// Where the entries of the list of regions begin.
+pub const ENTRIES: usize = 2216;
+
+/// Where the rest begins.
+pub const REST: usize = 2736;
+
+/// How many bytes a field has: one, or the four of a number.
+#[derive(Clone, Copy, Debug, PartialEq, Eq)]
+pub enum Width {
+    Byte,
+    Number,
+}
+
+/// The numbers that a field may hold: any, those from the first to the second, or the sizes of a region.
+#[derive(Clone, Copy, Debug, PartialEq, Eq)]
+pub enum Range {
+    Any,
+    Within(u32, u32),
+    RegionSize,
+}
+
+/// A field: its bytes and its range.
+#[derive(Clone, Copy, Debug, PartialEq, Eq)]
+pub struct Field {
+    pub width: Width,
+    pub range: Range,
+}
+
+impl Width {
+    /// How many bytes that is.
+    pub fn bytes(self) -> usize
+        ensures { result ≡ bytes_in self }
+    {
+        match self {
+            Width::Byte => 1,
+            Width::Number => 4,
+        }
+    }
+}
+
+// Whether a number is a power of two, from 256 to 65,536.
+fn is_region_size(value: u32) -> bool
+    ensures { result ≡ holds RegionSize value }
+{
+    for k in 0..9 {
+        if value == 2u32.pow(8 + k) {
+            return true;
+        }
+    }
+    false
+}
+
+impl Range {
+    /// Whether the number is in the range.
+    pub fn holds(self, value: u32) -> bool
+        ensures { result ≡ holds self value }
+    {
+        match self {
+            Range::Any => true,
+            Range::Within(least, most) => least <= value && value <= most,
+            Range::RegionSize => is_region_size(value),
+        }
+    }
+}
+
+// A field of one byte.
+fn byte(range: Range) -> Field
+    ensures { result ≡ byte range }
+{
+    Field {
+        width: Width::Byte,
+        range,
+    }
+}
+
+// A field of four bytes.
+fn number(range: Range) -> Field
+    ensures { result ≡ number range }
+{
+    Field {
+        width: Width::Number,
+        range,
+    }
+}
+
+/// The lock word.
+pub fn word() -> Field
+    ensures { result ≡ number Any }
+{
+    number(Range::Any)
+}
+
+/// A byte that is 0.
+pub fn zero() -> Field
+    ensures { result ≡ byte (Within 0 0) }
+{
+    byte(Range::Within(0, 0))
+}
+
+/// A drawable's stamp and flags.
+pub fn drawable() -> [Field; 2]
+    ensures { result ≡ drawable_fields }
+{
+    [number(Range::Any), number(Range::Within(0, 1))]
+}
+
+/// The frame, the dummy context, the owner, the global age, the number of regions and their size.
+pub fn numbers() -> [Field; 10]
+    ensures { result ≡ number (Within 0 0) ∷ number (Within 0 0) ∷ number (Within 1 1024) ∷ number (Within 1 1024) ∷ number (Within 0 0) ∷ number (Within 0 0) ∷ number (Within 0 33) ∷ number Any ∷ number (Within 1 64) ∷ number RegionSize ∷ [] }
+{
+    let zero = number(Range::Within(0, 0));
+    let side = number(Range::Within(1, 1024));
+    [
+        zero,
+        zero,
+        side,
+        side,
+        zero,
+        zero,
+        number(Range::Within(0, 33)),
+        number(Range::Any),
+        number(Range::Within(1, 64)),
+        number(Range::RegionSize),
+    ]
+}
+
+/// An entry of the list of `count` regions: next, prev, in use, padding, age.
+pub fn entry(count: u32) -> [Field; 5]
+    ensures { result ≡ entry_fields count 0 }
+{
+    let link = byte(Range::Within(0, count));
+    [
+        link,
+        link,
+        byte(Range::Within(0, 1)),
+        zero(),
+        number(Range::Any),
+    ]
+}
