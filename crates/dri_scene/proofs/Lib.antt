@@ -1,0 +1,10 @@
+pub mod TextSizes
+pub mod Numbers
+pub mod SoundSteps
+pub mod Joins
+pub mod Written
+pub mod Splitting
+pub mod PrintedWords
+pub mod PrintedLines
+pub mod ReadBack
+pub mod Sections

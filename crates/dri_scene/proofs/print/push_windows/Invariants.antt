@@ -1,0 +1,8 @@
+-- The lines so far.
+use Rattle.std.proofs.Common.{take}
+use Rattle.std.specs.List.{flat_map}
+use Rattle.dri_scene.specs.Texts.{Adds, line_bytes, window_words}
+use Rattle.dri_scene.proofs.print.push_windows.Given as goal
+
+abbrev pub invariant-loop-window : goal.invariant-loop-window
+invariant-loop-window l = Adds l.fn.text.items (flat_map (λ x. line_bytes (window_words x)) (take l.window-index l.window-items)) l.text.items

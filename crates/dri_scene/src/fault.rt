@@ -1,0 +1,48 @@
+//! Why a text has no scene.
+
+ghost use Rattle.std.specs.Prelude.{◌≡◌};
+
+use dri_base::OutOfMemory;
+use dri_words::Reason;
+use thiserror::Error;
+
+/// Why no scene was read.
+#[derive(Clone, Copy, Debug, PartialEq, Eq, Error)]
+pub enum SceneFault {
+    /// The first line that is refused, counted from 1, and the first reason for it. A text that ends too early is refused
+    /// at its last line where that has no newline, and else at the line after its last one.
+    #[error("line {line}: {reason:?}")]
+    Refused { line: u32, reason: Reason },
+    /// A growth of memory was refused.
+    #[error("out of memory")]
+    OutOfMemory,
+}
+
+impl From<OutOfMemory> for SceneFault {
+    ghost use Rattle.dri_scene.specs.declared.fault.SceneFault.TheVariants as faults;
+
+    ghost from_gives = { λ _ e. e ≡ faults.OutOfMemory };
+
+    fn from(_error: OutOfMemory) -> SceneFault {
+        SceneFault::OutOfMemory
+    }
+}
+
+/// Why a line leads no further.
+#[derive(Clone, Copy, Debug, PartialEq, Eq)]
+pub enum Stop {
+    /// The line is refused.
+    Refused(Reason),
+    /// A growth of memory was refused.
+    OutOfMemory,
+}
+
+impl From<OutOfMemory> for Stop {
+    ghost use Rattle.dri_scene.specs.declared.fault.Stop.TheVariants as stops;
+
+    ghost from_gives = { λ _ e. e ≡ stops.OutOfMemory };
+
+    fn from(_error: OutOfMemory) -> Stop {
+        Stop::OutOfMemory
+    }
+}

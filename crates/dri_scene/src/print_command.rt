@@ -1,0 +1,178 @@
+//! The lines of a client's commands.
+
+ghost use Rattle.std.specs.Prelude.{◌≡◌, ◌++◌, ◌∷◌, [], ℕ, List, codes, decimal, Some, OnOk};
+ghost use Rattle.dri_base.specs.declared.command.Command.TheVariants as Command;
+ghost use Rattle.dri_base.specs.declared.state.Setting.TheVariants as Setting;
+ghost use Rattle.dri_scene.specs.Texts.{Adds, blend_word, command_words, corner_words, depth_func_word, line_bytes, setting_words, shade_word, switch_word, tex_mode_word, words_bytes, wrap_word};
+
+use crate::words::{
+    end_line, push_bytes, push_colour, push_colour_alpha, push_number, push_signed, push_small,
+    push_word,
+};
+use dri_base::{
+    Blend, ClipRect, Command, DepthFunc, Rgb, Setting, Shade, TexMode, Triangle, Vertex, Wrap,
+};
+use std::alloc::AllocError;
+
+/// `flat` or `smooth`
+fn shade_word(shade: Shade) -> &'static [u8]
+    ensures { result.now ≡ shade_word shade }
+{
+    match shade {
+        Shade::Flat => b"flat",
+        Shade::Smooth => b"smooth",
+    }
+}
+
+/// The depth functions.
+fn depth_func_word(depth_func: DepthFunc) -> &'static [u8]
+    ensures { result.now ≡ depth_func_word depth_func }
+{
+    match depth_func {
+        DepthFunc::Never => b"never",
+        DepthFunc::Less => b"less",
+        DepthFunc::Equal => b"equal",
+        DepthFunc::LessEqual => b"lequal",
+        DepthFunc::Greater => b"greater",
+        DepthFunc::NotEqual => b"notequal",
+        DepthFunc::GreaterEqual => b"gequal",
+        DepthFunc::Always => b"always",
+    }
+}
+
+/// `on` or `off`
+fn switch_word(on: bool) -> &'static [u8]
+    ensures { result.now ≡ switch_word on }
+{
+    if on { b"on" } else { b"off" }
+}
+
+/// `off`, `alpha` or `add`
+fn blend_word(blend: Blend) -> &'static [u8]
+    ensures { result.now ≡ blend_word blend }
+{
+    match blend {
+        Blend::Off => b"off",
+        Blend::Alpha => b"alpha",
+        Blend::Add => b"add",
+    }
+}
+
+/// `off`, `replace` or `modulate`
+fn tex_mode_word(tex_mode: TexMode) -> &'static [u8]
+    ensures { result.now ≡ tex_mode_word tex_mode }
+{
+    match tex_mode {
+        TexMode::Off => b"off",
+        TexMode::Replace => b"replace",
+        TexMode::Modulate => b"modulate",
+    }
+}
+
+/// `repeat` or `clamp`
+fn wrap_word(wrap: Wrap) -> &'static [u8]
+    ensures { result.now ≡ wrap_word wrap }
+{
+    match wrap {
+        Wrap::Repeat => b"repeat",
+        Wrap::Clamp => b"clamp",
+    }
+}
+
+/// `set`, a name and a word
+fn push_plain_setting(text: &mut Vec<u8>, name: &[u8], word: &[u8]) -> Result<(), AllocError>
+    ensures { OnOk result (Adds text.old.items (line_bytes (codes "set" ∷ name.now ∷ word.now ∷ [])) text.new.items) }
+{
+    push_bytes(text, b"set")?;
+    push_word(text, name)?;
+    push_word(text, word)?;
+    end_line(text)
+}
+
+/// `set bind T`
+fn push_bind(text: &mut Vec<u8>, texture: u32) -> Result<(), AllocError>
+    ensures { OnOk result (Adds text.old.items (line_bytes (codes "set" ∷ codes "bind" ∷ decimal texture ∷ [])) text.new.items) }
+{
+    push_bytes(text, b"set")?;
+    push_word(text, b"bind")?;
+    push_number(text, texture)?;
+    end_line(text)
+}
+
+/// `set scissor X1 Y1 X2 Y2`
+fn push_scissor(text: &mut Vec<u8>, rect: &ClipRect) -> Result<(), AllocError>
+    ensures { OnOk result (Adds text.old.items (line_bytes (codes "set" ∷ setting_words (Setting.Scissor (Some rect.now)))) text.new.items) }
+{
+    push_bytes(text, b"set")?;
+    push_word(text, b"scissor")?;
+    push_small(text, rect.x1)?;
+    push_small(text, rect.y1)?;
+    push_small(text, rect.x2)?;
+    push_small(text, rect.y2)?;
+    end_line(text)
+}
+
+/// `set` and a setting
+fn push_setting(text: &mut Vec<u8>, setting: &Setting) -> Result<(), AllocError>
+    ensures { OnOk result (Adds text.old.items (line_bytes (codes "set" ∷ setting_words setting.now)) text.new.items) }
+{
+    match setting {
+        Setting::Shade(shade) => push_plain_setting(text, b"shade", shade_word(*shade)),
+        Setting::DepthFunc(func) => push_plain_setting(text, b"depth", depth_func_word(*func)),
+        Setting::DepthWrite(on) => push_plain_setting(text, b"write", switch_word(*on)),
+        Setting::Blend(blend) => push_plain_setting(text, b"blend", blend_word(*blend)),
+        Setting::TexMode(mode) => push_plain_setting(text, b"texmode", tex_mode_word(*mode)),
+        Setting::Wrap(wrap) => push_plain_setting(text, b"wrap", wrap_word(*wrap)),
+        Setting::Bind(None) => push_plain_setting(text, b"bind", b"none"),
+        Setting::Bind(Some(texture)) => push_bind(text, *texture),
+        Setting::Scissor(None) => push_plain_setting(text, b"scissor", b"none"),
+        Setting::Scissor(Some(rect)) => push_scissor(text, rect),
+    }
+}
+
+/// `clear RRGGBB Z`
+fn push_clear(text: &mut Vec<u8>, colour: Rgb, depth: u16) -> Result<(), AllocError>
+    ensures { OnOk result (Adds text.old.items (line_bytes (command_words (Command.Clear colour depth))) text.new.items) }
+{
+    push_bytes(text, b"clear")?;
+    push_colour(text, colour)?;
+    push_small(text, depth)?;
+    end_line(text)
+}
+
+/// The words of a corner, each behind a space.
+fn push_corner(text: &mut Vec<u8>, vertex: &Vertex) -> Result<(), AllocError>
+    ensures { OnOk result ((more : List (List ℕ)) → Adds text.old.items (words_bytes (corner_words vertex.now more)) (text.new.items ++ words_bytes more)) }
+{
+    push_signed(text, vertex.x)?;
+    push_signed(text, vertex.y)?;
+    push_small(text, vertex.z)?;
+    push_colour_alpha(text, vertex.colour)?;
+    push_small(text, vertex.s)?;
+    push_small(text, vertex.t)
+}
+
+/// `triangle` and three corners
+fn push_triangle(text: &mut Vec<u8>, triangle: &Triangle) -> Result<(), AllocError>
+    ensures { OnOk result (Adds text.old.items (line_bytes (command_words (Command.Triangle triangle.now))) text.new.items) }
+{
+    push_bytes(text, b"triangle")?;
+    push_corner(text, &triangle.a)?;
+    push_corner(text, &triangle.b)?;
+    push_corner(text, &triangle.c)?;
+    end_line(text)
+}
+
+/// A command's line.
+pub fn push_command(text: &mut Vec<u8>, command: &Command) -> Result<(), AllocError>
+    ensures { OnOk result (Adds text.old.items (line_bytes (command_words command.now)) text.new.items) }
+{
+    match command {
+        Command::Set(setting) => push_setting(text, setting),
+        Command::Clear { colour, depth } => push_clear(text, *colour, *depth),
+        Command::Triangle(triangle) => push_triangle(text, triangle),
+        Command::Swap => push_bytes(text, b"swap\n"),
+        Command::Yield => push_bytes(text, b"yield\n"),
+        Command::Die => push_bytes(text, b"die\n"),
+    }
+}

@@ -1,0 +1,119 @@
+//! The words of a printed line. A line is begun with its first word, further words are put behind a space each, and it is
+//! ended with a newline.
+
+ghost use Rattle.std.specs.Prelude.{◌≡◌, ◌++◌, ◌∷◌, [], ◌<◌, ◌≤◌, OnOk, decimal};
+ghost use Rattle.std.specs.Fmt.{signed_decimal};
+ghost use Rattle.std.specs.List.{flat_map};
+ghost use Rattle.dri_scene.specs.Texts.{Adds, colour_alpha_word, colour_word, digit, hex};
+
+use dri_base::{Bytes, Rgb, Rgba};
+use itoa::Buffer;
+use std::alloc::AllocError;
+
+/// Puts bytes as they are: a line's first word, or a whole line.
+pub fn push_bytes(text: &mut Vec<u8>, bytes: &[u8]) -> Result<(), AllocError>
+    ensures { OnOk result (Adds text.old.items bytes.now text.new.items) }
+{
+    text.extend_from_slice(bytes)
+}
+
+/// Ends the line.
+pub fn end_line(text: &mut Vec<u8>) -> Result<(), AllocError>
+    ensures { OnOk result (Adds text.old.items (10 ∷ []) text.new.items) }
+{
+    text.extend_from_slice(b"\n")
+}
+
+/// Puts a space and a word.
+pub fn push_word(text: &mut Vec<u8>, word: &[u8]) -> Result<(), AllocError>
+    ensures { OnOk result (Adds text.old.items (32 ∷ word.now) text.new.items) }
+{
+    text.extend_from_slice(b" ")?;
+    text.extend_from_slice(word)
+}
+
+/// Puts a number as it is.
+pub fn push_digits(text: &mut Vec<u8>, number: u32) -> Result<(), AllocError>
+    ensures { OnOk result (Adds text.old.items (decimal number) text.new.items) }
+{
+    let mut digits = Buffer::new();
+    push_bytes(text, digits.format(number).as_bytes())
+}
+
+/// Puts a space and a number of sixteen bits.
+pub fn push_small(text: &mut Vec<u8>, number: u16) -> Result<(), AllocError>
+    ensures { OnOk result (Adds text.old.items (32 ∷ decimal number) text.new.items) }
+{
+    let mut digits = Buffer::new();
+    push_word(text, digits.format(number).as_bytes())
+}
+
+/// Puts a space and a number.
+pub fn push_number(text: &mut Vec<u8>, number: u32) -> Result<(), AllocError>
+    ensures { OnOk result (Adds text.old.items (32 ∷ decimal number) text.new.items) }
+{
+    let mut digits = Buffer::new();
+    push_word(text, digits.format(number).as_bytes())
+}
+
+/// Puts a space and a number of either sign.
+pub fn push_signed(text: &mut Vec<u8>, number: i32) -> Result<(), AllocError>
+    ensures { OnOk result (Adds text.old.items (32 ∷ signed_decimal number) text.new.items) }
+{
+    let mut digits = Buffer::new();
+    push_word(text, digits.format(number).as_bytes())
+}
+
+/// A hexadecimal digit in lower case, of a number below 16.
+fn digit(n: u8) -> u8
+    requires { n < 16 }
+    ensures { result ≡ digit n }
+{
+    if n < 10 { n + b'0' } else { n - 10 + b'a' }
+}
+
+/// A byte as two hexadecimal digits.
+fn hex(byte: u8) -> [u8; 2]
+    ensures { result ≡ hex byte }
+{
+    [digit(byte / 16), digit(byte % 16)]
+}
+
+/// Puts a byte as two hexadecimal digits.
+fn push_hex(text: &mut Vec<u8>, byte: u8) -> Result<(), AllocError>
+    ensures { OnOk result (Adds text.old.items (hex byte) text.new.items) }
+{
+    text.extend_from_slice(&hex(byte))
+}
+
+/// Puts a space and a colour.
+pub fn push_colour(text: &mut Vec<u8>, colour: Rgb) -> Result<(), AllocError>
+    ensures { OnOk result (Adds text.old.items (32 ∷ colour_word colour) text.new.items) }
+{
+    let [r1, r2] = hex(colour.r);
+    let [g1, g2] = hex(colour.g);
+    let [b1, b2] = hex(colour.b);
+    push_word(text, &[r1, r2, g1, g2, b1, b2])
+}
+
+/// Puts a space and a colour with its alpha.
+pub fn push_colour_alpha(text: &mut Vec<u8>, colour: Rgba) -> Result<(), AllocError>
+    ensures { OnOk result (Adds text.old.items (32 ∷ colour_alpha_word colour) text.new.items) }
+{
+    let [r1, r2] = hex(colour.r);
+    let [g1, g2] = hex(colour.g);
+    let [b1, b2] = hex(colour.b);
+    let [a1, a2] = hex(colour.a);
+    push_word(text, &[r1, r2, g1, g2, b1, b2, a1, a2])
+}
+
+/// Puts a space and an image, two digits for each byte.
+pub fn push_image(text: &mut Vec<u8>, image: &Bytes) -> Result<(), AllocError>
+    ensures { OnOk result (Adds text.old.items (32 ∷ flat_map hex image.now) text.new.items) }
+{
+    text.extend_from_slice(b" ")?;
+    for byte in image.as_slice() {
+        push_hex(text, *byte)?;
+    }
+    Ok(())
+}
