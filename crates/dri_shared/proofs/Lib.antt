@@ -1,0 +1,13 @@
+pub mod Places
+pub mod Steps
+pub mod Rects
+pub mod Drawn
+pub mod Painted
+pub mod Windows
+pub mod Shown
+pub mod Clients
+pub mod Ran
+pub mod Inside
+pub mod Bindings
+pub mod Opening
+pub mod Loading

@@ -1,0 +1,29 @@
+use Rattle.std.proofs.Common.{◌-◌, ◌≤◌, None, subst, sym, arith, vec_len, vec_capacity, refl, rules}
+use Rattle.std.specs.Arc.{arc_value}
+use Rattle.dri_base.specs.declared.journal.Entry.TheVariants.{Gone}
+use Rattle.dri_meaning.specs.EntryTable.{LegalEntry}
+use Rattle.dri_meaning.specs.Runs.{after}
+use Rattle.dri_meaning.proofs.Bounds.{stamp_most}
+use Rattle.dri_shared.specs.States.{MayAdd, SharedState}
+use Rattle.dri_shared.proofs.Steps.{faithful, gone}
+use Rattle.dri_shared.proofs.shared.Shared.gone.Goals as goal
+
+pub unmap_windows-requires-clause-counter : goal.unmap_windows-requires-clause-counter
+unmap_windows-requires-clause-counter c =
+    let most = stamp_most (arc_value c.self.inside.scene) c.self.inside.journal.items c.self.invariant.scene c.self.invariant.run in
+    rw c.self.invariant.world.board.last (omega (arith, most))
+
+pub push_reserved-requires : goal.push_reserved-requires
+push_reserved-requires c =
+    let room : 1 ≤ vec_capacity c.self.inside.journal - vec_len c.self.inside.journal = subst (λ (v : SharedState). 1 ≤ v.spare) (sym c.self.view_is) c.requires.room in omega (arith, room)
+
+pub invariant_of-self-2 : goal.invariant_of-self-2
+invariant_of-self-2 c =
+    let i = c.self.inside in let s = arc_value i.scene in let j = i.journal.items in let n = c.args.client in let good = c.self.invariant.scene in let run = c.self.invariant.run in
+    let legal : LegalEntry s (after s j) (Gone n) = subst (λ v. MayAdd v (Gone n)) (sym c.self.view_is) c.requires.legal in
+    faithful s j c.push_reserved.new.self.items i.holdings (record i.holdings { card = c.unmap_windows.new.card; board = c.unmap_windows.new.board; holder = None; left = 0 }) (Gone n) c.self.invariant
+    legal c.push_reserved.ensures.items
+    (gone s i.holdings (after s j) n c.self.invariant.world c.unmap_windows.new.board c.unmap_windows.new.card c.in_ok-unmap_windows.ensures.ok)
+
+pub returns-clause-made : goal.returns-clause-made
+returns-clause-made c = rw (← c.self.view_is) (record { scene = refl; journal = c.push_reserved.ensures.items; spare = search rules })

@@ -1,0 +1,204 @@
+//! Drawing in a client's clips, a rectangle at a time. The rectangles lie on the card, and no two of them share a pixel,
+//! so each pixel of the clips is drawn once.
+
+ghost use Rattle.std.specs.Prelude.{◌≡◌, ◌≤◌, ◌≤ℤ◌, ◌∷◌, [], ℕ, pos};
+ghost use Rattle.dri_base.specs.declared.colour.Pixel.{Pixel};
+ghost use Rattle.dri_base.specs.declared.colour.Rgb.{Rgb};
+ghost use Rattle.dri_base.specs.Ranges.{IsPlace, TriangleInRange};
+ghost use Rattle.dri_card.specs.Contents.{Holds, KeepSides, Shows};
+ghost use Rattle.dri_card.specs.Drawing.{OnlyDrawn, OnlyShown};
+ghost use Rattle.dri_model.specs.CommandWords.{IsTriangle, triangle_words};
+ghost use Rattle.dri_shared.specs.Drawing.{IsSameRect, IsScreen, IsShown, IsShownOn, OnlyDrawnOn, StayOn, cleared_in, drawn_in, swapped_in};
+
+use dri_base::{ClipRect, Point, Rect, Rgb, Steps, Triangle};
+use dri_card::Card;
+use dri_cmdbuf::Buffer;
+use dri_rect::Region;
+use std::marker::Brand;
+use std::sync::ledger::{Blank, Ledger};
+
+/// A rectangle of the screen as the card takes it.
+pub(crate) fn clip_rect(rect: &Rect) -> ClipRect
+    requires { IsShown 1024 1024 rect.now }
+    ensures { IsSameRect rect.now result }
+{
+    ClipRect {
+        x1: rect.x1 as u16,
+        y1: rect.y1 as u16,
+        x2: rect.x2 as u16,
+        y2: rect.y2 as u16,
+    }
+}
+
+fn clear_rects<L: Ledger>(
+    card: &mut Card,
+    clips: &Region,
+    colour: Rgb,
+    depth: u16,
+    steps: &mut Steps<L>,
+)
+    requires screen { IsScreen card.old }
+    requires within { StayOn card.old clips.now }
+    ensures held { (f : ℕ → ℕ → Pixel) → Holds card.old f → Holds card.new (cleared_in clips.now colour depth f) }
+    ensures others { OnlyDrawn card.old card.new }
+    ensures sides { KeepSides card.old card.new }
+{
+    clips.arranged();
+    for n in 0..clips.len() {
+        card.clear(clip_rect(&clips.rect(n)), colour, depth, steps)
+            .unwrap();
+    }
+}
+
+fn clear_counted<L: Ledger>(blank: Blank, card: &mut Card, clips: &Region, colour: Rgb, depth: u16)
+    requires name { blank.name ≡ L.name }
+    requires parts { blank.parts ≡ L.parts }
+    requires one { L.parts ≡ 1 }
+    requires screen { IsScreen card.old }
+    requires within { StayOn card.old clips.now }
+    ensures held { (f : ℕ → ℕ → Pixel) → Holds card.old f → Holds card.new (cleared_in clips.now colour depth f) }
+    ensures others { OnlyDrawn card.old card.new }
+    ensures sides { KeepSides card.old card.new }
+{
+    clear_rects(card, clips, colour, depth, &mut Steps::<L>::new(blank));
+}
+
+/// Writes a colour and a depth into each pixel of the clips.
+pub(crate) fn clear_clips(card: &mut Card, clips: &Region, colour: Rgb, depth: u16)
+    requires screen { IsScreen card.old }
+    requires within { StayOn card.old clips.now }
+    ensures held { (f : ℕ → ℕ → Pixel) → Holds card.old f → Holds card.new (cleared_in clips.now colour depth f) }
+    ensures others { OnlyDrawn card.old card.new }
+    ensures sides { KeepSides card.old card.new }
+{
+    clear_counted::<Brand>(Blank::new(1), card, clips, colour, depth);
+}
+
+fn swap_rects<L: Ledger>(card: &mut Card, clips: &Region, steps: &mut Steps<L>)
+    requires screen { IsScreen card.old }
+    requires within { StayOn card.old clips.now }
+    ensures shown { (f : ℕ → ℕ → Pixel) (front : ℕ → ℕ → Rgb) → Holds card.old f → Shows card.old front → Shows card.new (swapped_in clips.now f front) }
+    ensures others { OnlyShown card.old card.new }
+    ensures sides { KeepSides card.old card.new }
+{
+    clips.arranged();
+    for i in 0..clips.len() {
+        card.swap(clip_rect(&clips.rect(i)), steps).unwrap();
+    }
+}
+
+fn swap_counted<L: Ledger>(blank: Blank, card: &mut Card, clips: &Region)
+    requires name { blank.name ≡ L.name }
+    requires parts { blank.parts ≡ L.parts }
+    requires one { L.parts ≡ 1 }
+    requires screen { IsScreen card.old }
+    requires within { StayOn card.old clips.now }
+    ensures shown { (f : ℕ → ℕ → Pixel) (front : ℕ → ℕ → Rgb) → Holds card.old f → Shows card.old front → Shows card.new (swapped_in clips.now f front) }
+    ensures others { OnlyShown card.old card.new }
+    ensures sides { KeepSides card.old card.new }
+{
+    swap_rects(card, clips, &mut Steps::<L>::new(blank));
+}
+
+/// Copies each pixel of the clips from back to front.
+pub(crate) fn swap_clips(card: &mut Card, clips: &Region)
+    requires screen { IsScreen card.old }
+    requires within { StayOn card.old clips.now }
+    ensures shown { (f : ℕ → ℕ → Pixel) (front : ℕ → ℕ → Rgb) → Holds card.old f → Shows card.old front → Shows card.new (swapped_in clips.now f front) }
+    ensures others { OnlyShown card.old card.new }
+    ensures sides { KeepSides card.old card.new }
+{
+    swap_counted::<Brand>(Blank::new(1), card, clips);
+}
+
+fn draw_rect<L: Ledger>(
+    card: &mut Card,
+    rect: &Rect,
+    origin: Point,
+    triangle: &Triangle,
+    buffer: &Buffer,
+    steps: &mut Steps<L>,
+)
+    requires screen { IsScreen card.old }
+    requires shown { IsShownOn card.old rect.now }
+    requires x { IsPlace origin.x }
+    requires y { IsPlace origin.y }
+    requires triangle { IsTriangle triangle.now }
+    requires words { buffer.now ≡ triangle_words triangle.now }
+    ensures held { (f : ℕ → ℕ → Pixel) → Holds card.old f → Holds card.new (drawn_in card.old origin triangle.now (rect.now ∷ []) f) }
+    ensures others { OnlyDrawnOn card.old card.new }
+    ensures sides { KeepSides card.old card.new }
+{
+    card.set_clip(clip_rect(rect)).unwrap();
+    card.dispatch(buffer, origin, steps).unwrap();
+}
+
+fn draw_rects<L: Ledger>(
+    card: &mut Card,
+    clips: &Region,
+    origin: Point,
+    triangle: &Triangle,
+    buffer: &Buffer,
+    steps: &mut Steps<L>,
+)
+    requires screen { IsScreen card.old }
+    requires within { StayOn card.old clips.now }
+    requires x { IsPlace origin.x }
+    requires y { IsPlace origin.y }
+    requires triangle { IsTriangle triangle.now }
+    requires words { buffer.now ≡ triangle_words triangle.now }
+    ensures held { (f : ℕ → ℕ → Pixel) → Holds card.old f → Holds card.new (drawn_in card.old origin triangle.now clips.now f) }
+    ensures others { OnlyDrawnOn card.old card.new }
+    ensures sides { KeepSides card.old card.new }
+{
+    clips.arranged();
+    for i in 0..clips.len() {
+        draw_rect(card, &clips.rect(i), origin, triangle, buffer, steps);
+    }
+}
+
+fn draw_counted<L: Ledger>(
+    blank: Blank,
+    card: &mut Card,
+    clips: &Region,
+    origin: Point,
+    triangle: &Triangle,
+)
+    requires name { blank.name ≡ L.name }
+    requires parts { blank.parts ≡ L.parts }
+    requires one { L.parts ≡ 1 }
+    requires screen { IsScreen card.old }
+    requires within { StayOn card.old clips.now }
+    requires x { IsPlace origin.x }
+    requires y { IsPlace origin.y }
+    requires range { TriangleInRange triangle.now }
+    ensures held { (f : ℕ → ℕ → Pixel) → Holds card.old f → Holds card.new (drawn_in card.old origin triangle.now clips.now f) }
+    ensures others { OnlyDrawnOn card.old card.new }
+    ensures sides { KeepSides card.old card.new }
+{
+    let mut buffer = Buffer::new();
+    buffer.push_triangle(triangle).unwrap();
+    draw_rects(
+        card,
+        clips,
+        origin,
+        triangle,
+        &buffer,
+        &mut Steps::<L>::new(blank),
+    );
+}
+
+/// Draws a triangle at each pixel of the clips, with the card's registers and texture memory. The window's pixel is the
+/// screen's less the origin.
+pub(crate) fn draw_clips(card: &mut Card, clips: &Region, origin: Point, triangle: &Triangle)
+    requires screen { IsScreen card.old }
+    requires within { StayOn card.old clips.now }
+    requires x { IsPlace origin.x }
+    requires y { IsPlace origin.y }
+    requires range { TriangleInRange triangle.now }
+    ensures held { (f : ℕ → ℕ → Pixel) → Holds card.old f → Holds card.new (drawn_in card.old origin triangle.now clips.now f) }
+    ensures others { OnlyDrawnOn card.old card.new }
+    ensures sides { KeepSides card.old card.new }
+{
+    draw_counted::<Brand>(Blank::new(1), card, clips, origin, triangle);
+}
