@@ -1,0 +1,8 @@
+pub mod Copied
+mod Counts
+pub mod Fitting
+mod Losses
+mod Owned
+mod Preparing
+mod Steps
+pub mod Telling

@@ -1,0 +1,90 @@
+//! The next step of a client that holds: it runs its next command, or makes ready for it. Before a triangle that needs a
+//! texture the texture is placed, and before any triangle the card learns what is dirty.
+
+ghost use Rattle.std.specs.Prelude.{◌≡◌, ◌≢◌, ◌+◌, ◌≤◌, ◌↔◌, Some};
+ghost use Rattle.dri_meaning.specs.Phases.{In};
+ghost use Rattle.dri_shared.specs.Sides.{client_at, value_at, world_at};
+ghost use Rattle.dri_driver.specs.Acts.{IfRan, IsActing, IsAtDeath, IsAtEnd, IsStep, MustGo, UnlessRan, event_of, next_event};
+ghost use Rattle.dri_driver.specs.Clients.{next_command};
+ghost use Rattle.dri_driver.specs.Fits.{Fits, HasMade};
+ghost use Rattle.dri_driver.specs.Needs.{entries_left};
+
+use super::Client;
+use crate::answers::Acted;
+use crate::phase::Activity;
+use dri_base::{Command, Entry, Triangle};
+use dri_shared::ClientSide;
+
+impl Client {
+    /// Makes the one event that is its turn: it places a texture, emits what is dirty, or runs its next command. It must
+    /// leave exactly where it is over and a command is left, it is done exactly where it is over and none is left, and
+    /// it dies exactly where its next command is its death; then nothing changes. It is in or over.
+    pub fn act(&mut self, side: &mut ClientSide<'_>) -> Acted
+        requires acting { IsActing self.old }
+        requires client { client_at side.old ≡ self.old.number }
+        requires fits { Fits self.old (value_at side.old) }
+        requires room { 1 ≤ (value_at side.old).spare }
+        ensures must_leave { (result ≡ Acted.MustLeave) ↔ MustGo self.old }
+        ensures dies { (result ≡ Acted.Dies) ↔ IsAtDeath self.old }
+        ensures done { (result ≡ Acted.Done) ↔ IsAtEnd self.old }
+        ensures event { IfRan result (λ e. next_event self.old (world_at side.old) ≡ Some (event_of e)) }
+        ensures made { IfRan result (HasMade self.old self.new side.old side.new) }
+        ensures acting { IfRan result (λ e. IsActing self.new) }
+        ensures falls { IfRan result (λ e. entries_left self.new + 1 ≤ entries_left self.old) }
+        ensures kept { UnlessRan result (self.new ≡ self.old) }
+        ensures side_kept { UnlessRan result (side.new ≡ side.old) }
+    {
+        match (self.activity, self.next_command()) {
+            (Activity::Over, Some(_)) => Acted::MustLeave,
+            (Activity::Over, None) => Acted::Done,
+            (_, Some(Command::Die)) => Acted::Dies,
+            (_, Some(command)) => Acted::Ran {
+                entry: self.go_on(side, &command),
+            },
+            (_, None) => unreachable!(),
+        }
+    }
+
+    // Runs its next command, which isn't its death, or makes ready for it.
+    fn go_on(&mut self, side: &mut ClientSide<'_>, command: &Command) -> Entry
+        requires acting { self.old.phase ≡ In }
+        requires client { client_at side.old ≡ self.old.number }
+        requires fits { Fits self.old (value_at side.old) }
+        requires room { 1 ≤ (value_at side.old).spare }
+        requires next { next_command self.old ≡ Some command.now }
+        requires living { command.now ≢ Command.Die }
+        ensures step { IsStep self.old self.new side.old side.new result }
+        ensures acting { self.old.phase ≡ In }
+        ensures living { next_command self.old ≢ Some Command.Die }
+    {
+        match command {
+            Command::Set(setting) => self.set(side, setting),
+            Command::Clear { colour, depth } => self.clear(side, *colour, *depth),
+            Command::Triangle(triangle) => self.draw(side, triangle),
+            Command::Swap => self.swap(side),
+            Command::Yield => self.yields(side),
+            Command::Die => unreachable!(),
+        }
+    }
+
+    // Draws its next command, a triangle, or makes ready for it.
+    fn draw(&mut self, side: &mut ClientSide<'_>, triangle: &Triangle) -> Entry
+        requires acting { self.old.phase ≡ In }
+        requires client { client_at side.old ≡ self.old.number }
+        requires fits { Fits self.old (value_at side.old) }
+        requires room { 1 ≤ (value_at side.old).spare }
+        requires next { next_command self.old ≡ Some (Command.Triangle triangle.now) }
+        ensures { IsStep self.old self.new side.old side.new result }
+    {
+        match self.missing_texture() {
+            Some(texture) => self.place(side, texture),
+            None => {
+                if self.context.dirty().is_empty() {
+                    self.triangle(side, triangle)
+                } else {
+                    self.emit(side)
+                }
+            }
+        }
+    }
+}
