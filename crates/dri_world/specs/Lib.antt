@@ -1,0 +1,4 @@
+pub mod Courses
+pub mod Locks
+pub mod Turns
+pub mod Holding

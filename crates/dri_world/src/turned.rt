@@ -1,0 +1,10 @@
+//! What a turn or a kill answers.
+
+use dri_base::Event;
+
+/// What a turn or a kill did: it made one event, or was passed over.
+#[derive(Clone, Copy, Debug, PartialEq, Eq)]
+pub enum Turned {
+    Did(Event),
+    Passed,
+}
