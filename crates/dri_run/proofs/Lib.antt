@@ -1,7 +1,2 @@
-pub mod Soundness
-pub mod RowLemmas
-pub mod CardLemmas
-pub mod Visible
-pub mod OneFrames
-pub mod ShownFrames
-pub mod PlainDraws
+pub mod Schedules
+pub mod Kept

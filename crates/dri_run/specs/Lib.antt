@@ -1,9 +1,6 @@
-pub mod Lines
-pub mod Text
-pub mod Shapes
 pub mod Ppm
-pub mod Screen
-pub mod Cards
+pub mod Journals
 pub mod Notices
+pub mod Forms
+pub mod Gains
 pub mod Outcome
-pub mod PlainScripts

@@ -1,14 +1,14 @@
 //! The top calls: from the words of the command line and a scene's text to the picture, the notes and a status.
 #![tactic(auto)]
 
-mod card;
-mod line;
+mod form;
 mod notice;
+mod output;
 mod ppm;
-mod reading;
-mod screen;
+mod printing;
 mod status;
 mod top;
+mod writing;
 
 pub use status::Status;
 pub use top::drive;

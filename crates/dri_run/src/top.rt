@@ -1,39 +1,74 @@
 //! The top call: words, reading, length, text, run, writing, in this order.
 
-ghost use Rattle.std.specs.Prelude.{◌≡◌, ◌≢◌, ◌⊎◌, ◌↔◌, ℕ, List, Some, IsTrue};
-ghost use Rattle.std.specs.Io.KnownBytes.{Consumes, Appends};
+ghost use Rattle.std.specs.Prelude.{◌≡◌, ◌≢◌, ◌⊎◌, ◌↔◌, ℕ, List, None, Some};
+ghost use Rattle.std.specs.Io.KnownBytes.{Consumes};
+ghost use Rattle.std.specs.declared.option.Option.{Option};
 ghost use Rattle.dri_io.specs.Causes.{Rose};
-ghost use Rattle.dri_run.specs.Notices.{line_of};
-ghost use Rattle.dri_run.specs.Outcome.{IsForm, Says, Tells, answer_to};
+ghost use Rattle.dri_run.specs.declared.form.Form.{Form};
+ghost use Rattle.dri_run.specs.Forms.{form_of};
+ghost use Rattle.dri_run.specs.Outcome.{Answers, Runs, Says, SaysTo, answer_to, refusal};
+ghost use Rattle.dri_base.specs.Ranges.{InRange};
 
 use crate::Status;
-use crate::notice::line_of;
-use crate::reading::{Stop, scene_from};
-use crate::screen::picture_of;
-use dri_io::{ReadAll, Sink, Source, read_all, write_all};
-use dri_words::Reason;
+use crate::form::{Form, form_of};
+use crate::output::output_of;
+use crate::writing::{tell, write};
+use dri_base::Scene;
+use dri_io::{ReadAll, Sink, Source, read_all};
+use dri_scene::{SceneFault, read_scene};
 use std::alloc::Global;
 
 /// The most bytes that a scene's text may have.
 const MOST: usize = 16_777_216;
 
-/// Whether the words are the one word `turns`.
-fn is_turns(words: &[String]) -> bool
-    ensures { IsTrue result ↔ IsForm words.now }
+/// The status for a text that has no scene.
+fn refusal(fault: SceneFault) -> Status
+    ensures { result ≡ refusal fault }
 {
-    match words {
-        [word] => word.as_str() == "turns",
-        _ => false,
+    match fault {
+        SceneFault::Refused { line, reason } => Status::Refused { line, reason },
+        SceneFault::OutOfMemory => Status::OutOfMemory,
     }
 }
 
-/// Reads a scene's text and writes its picture.
-fn turns<S: Source, P: Sink>(alloc: Global, input: &mut S, picture: &mut P) -> Status
+/// Runs a scene and writes what the form asks for.
+fn run<P: Sink, N: Sink>(
+    alloc: Global,
+    form: Form,
+    scene: Scene,
+    picture: &mut P,
+    notes: &mut N,
+) -> Status
+    requires { InRange scene }
+    ensures ran { Runs form result scene
+        (record { held = P.held picture.old; holds = P.held picture.new; before = P.faults picture.old; now = P.faults picture.new })
+        (record { held = N.held notes.old; holds = N.held notes.new; before = N.faults notes.old; now = N.faults notes.new }) }
+    ensures unwritten { result ≡ Status.OutOfMemory → (picture.new ≡ picture.old) × (notes.new ≡ notes.old) }
+{
+    match output_of(alloc, form, scene) {
+        Ok(output) => write(&output, picture, notes),
+        Err(_) => Status::OutOfMemory,
+    }
+}
+
+/// Reads a scene's text, runs the scene, and writes what the form asks for.
+fn obey<S: Source, P: Sink, N: Sink>(
+    alloc: Global,
+    form: Form,
+    input: &mut S,
+    picture: &mut P,
+    notes: &mut N,
+) -> Status
     ensures says { (given : List ℕ) × Consumes (S.left input.old) (S.left input.new) given
-        × Says result given (S.left input.new) (P.held picture.old) (P.held picture.new) }
+        × Says form result given (S.left input.new)
+        (record { held = P.held picture.old; holds = P.held picture.new; before = P.faults picture.old; now = P.faults picture.new })
+        (record { held = N.held notes.old; holds = N.held notes.new; before = N.faults notes.old; now = N.faults notes.new }) }
     ensures read_fault { result ≡ Status.ReadFault → Rose (S.faults input.old) (S.faults input.new) }
-    ensures write_fault { result ≡ Status.WriteFault → Rose (P.faults picture.old) (P.faults picture.new) }
-    ensures unwritten { result ≢ Status.Done → result ≢ Status.WriteFault → picture.new ≡ picture.old }
+    ensures unwritten { result ≢ Status.Done → result ≢ Status.WriteFault → (picture.new ≡ picture.old) × (notes.new ≡ notes.old) }
+    ensures decided { (bytes : List ℕ) → S.left input.old ≡ Some bytes
+        → (Rose (S.faults input.old) (S.faults input.new) → ⊥) → (Rose (P.faults picture.old) (P.faults picture.new) → ⊥)
+        → (Rose (N.faults notes.old) (N.faults notes.new) → ⊥)
+        → (result ≡ answer_to bytes) ⊎ (result ≡ Status.OutOfMemory) }
 {
     let bytes = match read_all(alloc, input, MOST) {
         Ok(bytes) => bytes,
@@ -41,36 +76,44 @@ fn turns<S: Source, P: Sink>(alloc: Global, input: &mut S, picture: &mut P) -> S
         Err(ReadAll::TooLong) => return Status::TooLong,
         Err(ReadAll::OutOfMemory) => return Status::OutOfMemory,
     };
-    let scene = match scene_from(alloc, bytes.as_slice()) {
-        Ok(scene) => scene,
-        Err(Stop::Refused) => {
-            return Status::Refused {
-                line: 0,
-                reason: Reason::Shape,
-            };
-        }
-        Err(Stop::OutOfMemory) => return Status::OutOfMemory,
-    };
-    let image = match picture_of(alloc, &scene) {
-        Ok(image) => image,
-        Err(_) => return Status::OutOfMemory,
-    };
-    match write_all(picture, image.as_slice()) {
-        Ok(()) => Status::Done,
-        Err(_) => Status::WriteFault,
+    match read_scene(alloc, bytes.as_slice()) {
+        Ok(scene) => run(alloc, form, scene, picture, notes),
+        Err(fault) => refusal(fault),
     }
 }
 
-/// Writes a status's line to the notes.
-fn tell<N: Sink>(status: Status, notes: &mut N)
-    ensures { Tells (line_of status) (N.held notes.old) (N.held notes.new) (N.faults notes.old) (N.faults notes.new) }
+/// Answers to the words: those of no form at once, and the others to the source's bytes.
+#[tactic(auto, using(crate::proofs::Kept::consumes_nothing))]
+fn answer<S: Source, P: Sink, N: Sink>(
+    alloc: Global,
+    words: &[String],
+    input: &mut S,
+    picture: &mut P,
+    notes: &mut N,
+) -> Status
+    ensures usage { (result ≡ Status.Usage) ↔ (form_of words.now ≡ None) }
+    ensures unread { result ≡ Status.Usage → input.new ≡ input.old }
+    ensures says { (given : List ℕ) × Consumes (S.left input.old) (S.left input.new) given
+        × SaysTo (form_of words.now) result given (S.left input.new)
+        (record { held = P.held picture.old; holds = P.held picture.new; before = P.faults picture.old; now = P.faults picture.new })
+        (record { held = N.held notes.old; holds = N.held notes.new; before = N.faults notes.old; now = N.faults notes.new }) }
+    ensures unwritten { result ≢ Status.Done → result ≢ Status.WriteFault → picture.new ≡ picture.old }
+    ensures read_fault { result ≡ Status.ReadFault → Rose (S.faults input.old) (S.faults input.new) }
+    ensures decided { (form : Form) (bytes : List ℕ) → form_of words.now ≡ Some form → S.left input.old ≡ Some bytes
+        → (Rose (S.faults input.old) (S.faults input.new) → ⊥) → (Rose (P.faults picture.old) (P.faults picture.new) → ⊥)
+        → (Rose (N.faults notes.old) (N.faults notes.new) → ⊥)
+        → (result ≡ answer_to bytes) ⊎ (result ≡ Status.OutOfMemory) }
 {
-    let line = line_of(status);
-    let _ = write_all(notes, line.as_str().as_bytes());
+    match form_of(words) {
+        Some(form) => obey(alloc, form, input, picture, notes),
+        None => Status::Usage,
+    }
 }
 
-/// Does what the words of the command line say. `turns` reads a scene from `input`, runs it and writes its screen to
-/// `picture` in the P6 form. For every status but `Done` one line is written to `notes`. It waits for nobody.
+/// Does what the words of the command line say. `turns` reads a scene from `input`, runs it, and writes its screen to
+/// `picture` in the P6 form and its journal to `notes`. `sarea` does the same and writes the image of the shared area to
+/// `picture` in place of the screen, and no journal. For every status but `Done` one line is written to `notes` last. It
+/// waits for nobody.
 pub fn drive<S: Source, P: Sink, N: Sink>(
     alloc: Global,
     words: &[String],
@@ -79,32 +122,28 @@ pub fn drive<S: Source, P: Sink, N: Sink>(
     notes: &mut N,
 ) -> Status
     // The words are of no form: nothing is read.
-    ensures usage { (result ≡ Status.Usage) ↔ (IsForm words.now → ⊥) }
+    ensures usage { (result ≡ Status.Usage) ↔ (form_of words.now ≡ None) }
     ensures unread { result ≡ Status.Usage → input.new ≡ input.old }
 
-    // What was given, and what the picture gained. `NotARun` never comes.
-    ensures says { IsForm words.now → (given : List ℕ) × Consumes (S.left input.old) (S.left input.new) given
-        × Says result given (S.left input.new) (P.held picture.old) (P.held picture.new) }
+    // What was given, and what picture and notes gained. Where the answer is `Done`, the bytes given are the text of one
+    // scene; with the run of its schedule and rounds, the picture gained what the screen or the shared area shows after
+    // it, and the notes its journal; and of that run the headline holds.
+    ensures answers { (given : List ℕ) × Consumes (S.left input.old) (S.left input.new) given
+        × Answers (form_of words.now) result given (S.left input.new)
+        (record { held = P.held picture.old; holds = P.held picture.new; before = P.faults picture.old; now = P.faults picture.new })
+        (record { held = N.held notes.old; holds = N.held notes.new; before = N.faults notes.old; now = N.faults notes.new }) }
     ensures unwritten { result ≢ Status.Done → result ≢ Status.WriteFault → picture.new ≡ picture.old }
 
-    // Each fault has its cause.
+    // A fault of the source has its cause.
     ensures read_fault { result ≡ Status.ReadFault → Rose (S.faults input.old) (S.faults input.new) }
-    ensures write_fault { result ≡ Status.WriteFault → Rose (P.faults picture.old) (P.faults picture.new) }
-
-    // The notes gain nothing where the picture was written whole, and otherwise the status's line.
-    ensures silent { result ≡ Status.Done → notes.new ≡ notes.old }
-    ensures told { result ≢ Status.Done → Tells (line_of result) (N.held notes.old) (N.held notes.new) (N.faults notes.old) (N.faults notes.new) }
 
     // Where no count rose, the bytes decide the answer, want of memory aside.
-    ensures decided { (bytes : List ℕ) → IsForm words.now → S.left input.old ≡ Some bytes
+    ensures decided { (form : Form) (bytes : List ℕ) → form_of words.now ≡ Some form → S.left input.old ≡ Some bytes
         → (Rose (S.faults input.old) (S.faults input.new) → ⊥) → (Rose (P.faults picture.old) (P.faults picture.new) → ⊥)
+        → (Rose (N.faults notes.old) (N.faults notes.new) → ⊥)
         → (result ≡ answer_to bytes) ⊎ (result ≡ Status.OutOfMemory) }
 {
-    let status = if is_turns(words) {
-        turns(alloc, input, picture)
-    } else {
-        Status::Usage
-    };
+    let status = answer(alloc, words, input, picture, notes);
     if status != Status::Done {
         tell(status, notes);
     }

@@ -1,0 +1,36 @@
+//! The words of the command line.
+
+ghost use Rattle.std.specs.Prelude.{◌≡◌};
+ghost use Rattle.dri_run.specs.Forms.{form_of, form_of_word};
+
+/// What the words ask for.
+#[derive(Clone, Copy, Debug, PartialEq, Eq)]
+pub enum Form {
+    /// `turns`: the picture and the journal of a scene.
+    Turns,
+    /// `sarea`: the shared area that a scene leaves.
+    Sarea,
+}
+
+/// What one word asks for.
+fn form_of_word(word: &str) -> Option<Form>
+    ensures { result ≡ form_of_word word.now }
+{
+    if word == "turns" {
+        Some(Form::Turns)
+    } else if word == "sarea" {
+        Some(Form::Sarea)
+    } else {
+        None
+    }
+}
+
+/// What the words ask for, where they are of a form.
+pub fn form_of(words: &[String]) -> Option<Form>
+    ensures { result ≡ form_of words.now }
+{
+    match words {
+        [word] => form_of_word(word.as_str()),
+        _ => None,
+    }
+}

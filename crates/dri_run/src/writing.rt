@@ -1,0 +1,42 @@
+//! What is written: the picture whole, then the notes, and then, for a status other than `Done`, the status's line.
+
+ghost use Rattle.std.specs.Prelude.{◌≤◌};
+ghost use Rattle.dri_run.specs.Gains.{Gains, Sunk, Written};
+ghost use Rattle.dri_run.specs.Notices.{line_of};
+
+use crate::Status;
+use crate::notice::line_of;
+use dri_base::Bytes;
+use dri_io::{Sink, write_all};
+
+/// What a run has to write.
+#[derive(Debug, Drop)]
+pub struct Output {
+    pub picture: Bytes,
+    pub notes: Bytes,
+}
+
+/// Writes the picture whole, and then the notes.
+pub fn write<P: Sink, N: Sink>(output: &Output, picture: &mut P, notes: &mut N) -> Status
+    ensures { Written result
+        (record { held = P.held picture.old; holds = P.held picture.new; before = P.faults picture.old; now = P.faults picture.new })
+        (record { held = N.held notes.old; holds = N.held notes.new; before = N.faults notes.old; now = N.faults notes.new })
+        output.now.picture output.now.notes }
+{
+    if write_all(picture, output.picture.as_slice()).is_err() {
+        return Status::WriteFault;
+    }
+    match write_all(notes, output.notes.as_slice()) {
+        Ok(()) => Status::Done,
+        Err(_) => Status::WriteFault,
+    }
+}
+
+/// Writes a status's line to the notes. A fault in writing it changes nothing.
+pub fn tell<N: Sink>(status: Status, notes: &mut N)
+    ensures gains { Gains (record { held = N.held notes.old; holds = N.held notes.new; before = N.faults notes.old; now = N.faults notes.new }) (line_of status) }
+    ensures later { N.faults notes.old ≤ N.faults notes.new }
+{
+    let line = line_of(status);
+    let _ = write_all(notes, line.as_str().as_bytes());
+}
