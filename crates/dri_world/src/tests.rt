@@ -17,6 +17,168 @@ const RED: Rgb = Rgb { r: 255, g: 0, b: 0 };
 
 const GREEN: Rgb = Rgb { r: 0, g: 255, b: 0 };
 
+/// A triangle, in one hold more after the stale one.
+const ONE_TRIANGLE: [Entry; 10] = [
+    Entry::Kernel {
+        client: 1,
+        found: 1,
+    },
+    Entry::Stale { client: 1 },
+    Entry::Leave { client: 1 },
+    Entry::Info { client: 1 },
+    Entry::Kernel {
+        client: 1,
+        found: 1,
+    },
+    Entry::Run {
+        client: 1,
+        place: 1,
+    },
+    Entry::Emit {
+        client: 1,
+        groups: 127,
+    },
+    Entry::Run {
+        client: 1,
+        place: 2,
+    },
+    Entry::Run {
+        client: 1,
+        place: 3,
+    },
+    Entry::Leave { client: 1 },
+];
+
+/// The client dies in its second hold, which is light.
+const DIES: [Entry; 10] = [
+    Entry::Kernel {
+        client: 1,
+        found: 1,
+    },
+    Entry::Stale { client: 1 },
+    Entry::Leave { client: 1 },
+    Entry::Info { client: 1 },
+    Entry::Kernel {
+        client: 1,
+        found: 1,
+    },
+    Entry::Run {
+        client: 1,
+        place: 1,
+    },
+    Entry::Run {
+        client: 1,
+        place: 2,
+    },
+    Entry::Leave { client: 1 },
+    Entry::Light { client: 1 },
+    Entry::Gone { client: 1 },
+];
+
+/// Client 1 leaves by the kernel, since client 2 waits.
+const WAITS: [Entry; 19] = [
+    Entry::Kernel {
+        client: 1,
+        found: 1,
+    },
+    Entry::Stale { client: 1 },
+    Entry::Leave { client: 1 },
+    Entry::Info { client: 1 },
+    Entry::Kernel {
+        client: 1,
+        found: 1,
+    },
+    Entry::Run {
+        client: 1,
+        place: 1,
+    },
+    Entry::Emit {
+        client: 1,
+        groups: 127,
+    },
+    Entry::Run {
+        client: 1,
+        place: 2,
+    },
+    Entry::Run {
+        client: 1,
+        place: 3,
+    },
+    Entry::Run {
+        client: 1,
+        place: 4,
+    },
+    Entry::Leave { client: 1 },
+    Entry::Kernel {
+        client: 2,
+        found: 0,
+    },
+    Entry::Stale { client: 2 },
+    Entry::Leave { client: 2 },
+    Entry::Info { client: 2 },
+    Entry::Kernel {
+        client: 2,
+        found: 1,
+    },
+    Entry::Run {
+        client: 2,
+        place: 1,
+    },
+    Entry::Run {
+        client: 2,
+        place: 2,
+    },
+    Entry::Leave { client: 2 },
+];
+
+/// Client 1 is killed while it holds.
+const KILLED: [Entry; 17] = [
+    Entry::Kernel {
+        client: 1,
+        found: 1,
+    },
+    Entry::Stale { client: 1 },
+    Entry::Leave { client: 1 },
+    Entry::Info { client: 1 },
+    Entry::Kernel {
+        client: 1,
+        found: 1,
+    },
+    Entry::Run {
+        client: 1,
+        place: 1,
+    },
+    Entry::Emit {
+        client: 1,
+        groups: 127,
+    },
+    Entry::Run {
+        client: 1,
+        place: 2,
+    },
+    Entry::Gone { client: 1 },
+    Entry::Kernel {
+        client: 2,
+        found: 0,
+    },
+    Entry::Stale { client: 2 },
+    Entry::Leave { client: 2 },
+    Entry::Info { client: 2 },
+    Entry::Kernel {
+        client: 2,
+        found: 1,
+    },
+    Entry::Run {
+        client: 2,
+        place: 1,
+    },
+    Entry::Run {
+        client: 2,
+        place: 2,
+    },
+    Entry::Leave { client: 2 },
+];
+
 fn clear(colour: Rgb) -> Command {
     Command::Clear {
         colour,
@@ -130,38 +292,6 @@ fn two_clients(alloc: Global, items: &[Item]) -> Result<Scene, OutOfMemory> {
     scene(alloc, 4, 2, &windows, clients, turns)
 }
 
-fn kernel(client: u32, found: u32) -> Entry {
-    Entry::Kernel { client, found }
-}
-
-fn stale(client: u32) -> Entry {
-    Entry::Stale { client }
-}
-
-fn leave(client: u32) -> Entry {
-    Entry::Leave { client }
-}
-
-fn info(client: u32) -> Entry {
-    Entry::Info { client }
-}
-
-fn run(client: u32, place: u32) -> Entry {
-    Entry::Run { client, place }
-}
-
-/// All seven groups of a client.
-fn emit(client: u32) -> Entry {
-    Entry::Emit {
-        client,
-        groups: 127,
-    }
-}
-
-fn gone(client: u32) -> Entry {
-    Entry::Gone { client }
-}
-
 /// The word after the schedule, and the world after the rounds.
 fn played(alloc: Global, scene: Scene) -> Result<(u32, World), OutOfMemory>
     requires { InRange scene }
@@ -174,99 +304,43 @@ fn played(alloc: Global, scene: Scene) -> Result<(u32, World), OutOfMemory>
 }
 
 #[test]
-fn journals(rt: HostRuntime) -> Result<(), Fail> {
-    let alloc = rt.alloc();
-    let scene = alone(
-        alloc,
-        4,
-        &[clear(BLACK), triangle(255, 0, 0), Command::Swap],
-    )?;
+fn one_triangle(rt: HostRuntime) -> Result<(), Fail> {
+    let commands = [clear(BLACK), triangle(255, 0, 0), Command::Swap];
+    let scene = alone(rt.alloc(), 4, commands.as_slice())?;
     assert!(rt; scene.in_range());
-    let (_, world) = played(alloc, scene)?;
-    let first_hold = [
-        kernel(1, 1),
-        stale(1),
-        leave(1),
-        info(1),
-        kernel(1, 1),
-        run(1, 1),
-        emit(1),
-        run(1, 2),
-        run(1, 3),
-        leave(1),
-    ];
-    assert_eq!(rt; world.journal(), first_hold.as_slice());
+    let (_, world) = played(rt.alloc(), scene)?;
+    assert_eq!(rt; world.journal(), ONE_TRIANGLE.as_slice());
+    Ok(())
+}
 
+#[test]
+fn death_by_command(rt: HostRuntime) -> Result<(), Fail> {
     let commands = [clear(RED), Command::Swap, Command::Die];
-    let scene = alone(alloc, 2, &commands)?;
+    let scene = alone(rt.alloc(), 2, commands.as_slice())?;
     assert!(rt; scene.in_range());
-    let (word, world) = played(alloc, scene)?;
-    let dies = [
-        kernel(1, 1),
-        stale(1),
-        leave(1),
-        info(1),
-        kernel(1, 1),
-        run(1, 1),
-        run(1, 2),
-        leave(1),
-        Entry::Light { client: 1 },
-        gone(1),
-    ];
-    assert_eq!(rt; world.journal(), dies.as_slice());
-    assert_eq!(rt; (word, world.word()), (1, 0));
+    let (_, world) = played(rt.alloc(), scene)?;
+    assert_eq!(rt; world.journal(), DIES.as_slice());
+    assert_eq!(rt; world.word(), 0);
+    Ok(())
+}
 
-    let scene = two_clients(alloc, &[])?;
+#[test]
+fn waiting_marks_the_word(rt: HostRuntime) -> Result<(), Fail> {
+    let scene = two_clients(rt.alloc(), [].as_slice())?;
     assert!(rt; scene.in_range());
-    let (word, world) = played(alloc, scene)?;
-    let waits = [
-        kernel(1, 1),
-        stale(1),
-        leave(1),
-        info(1),
-        kernel(1, 1),
-        run(1, 1),
-        emit(1),
-        run(1, 2),
-        run(1, 3),
-        run(1, 4),
-        leave(1),
-        kernel(2, 0),
-        stale(2),
-        leave(2),
-        info(2),
-        kernel(2, 1),
-        run(2, 1),
-        run(2, 2),
-        leave(2),
-    ];
-    assert_eq!(rt; world.journal(), waits.as_slice());
+    let (word, world) = played(rt.alloc(), scene)?;
+    assert_eq!(rt; world.journal(), WAITS.as_slice());
     assert_eq!(rt; word, 0xC000_0002);
+    Ok(())
+}
 
-    let killed = [Item::Kill { client: 1 }, Item::Turn { actor: 2 }];
-    let scene = two_clients(alloc, &killed)?;
+#[test]
+fn death_frees_the_word(rt: HostRuntime) -> Result<(), Fail> {
+    let items = [Item::Kill { client: 1 }, Item::Turn { actor: 2 }];
+    let scene = two_clients(rt.alloc(), items.as_slice())?;
     assert!(rt; scene.in_range());
-    let (word, world) = played(alloc, scene)?;
-    let death = [
-        kernel(1, 1),
-        stale(1),
-        leave(1),
-        info(1),
-        kernel(1, 1),
-        run(1, 1),
-        emit(1),
-        run(1, 2),
-        gone(1),
-        kernel(2, 0),
-        stale(2),
-        leave(2),
-        info(2),
-        kernel(2, 1),
-        run(2, 1),
-        run(2, 2),
-        leave(2),
-    ];
-    assert_eq!(rt; world.journal(), death.as_slice());
+    let (word, world) = played(rt.alloc(), scene)?;
+    assert_eq!(rt; world.journal(), KILLED.as_slice());
     assert_eq!(rt; word, 0x8000_0003);
     Ok(())
 }
