@@ -1,6 +1,6 @@
 -- What turns and kills answer, from what they made.
-use Rattle.std.proofs.Common.{◌≡◌, ◌≢◌, ◌≤◌, ◌<◌, ◌+◌, ℕ, List, [], ◌∷◌, ◌++◌, Option, Some, None, true, false, length, get_or, arith, refl, sym, ap, ◌∙◌, subst}
-use Rattle.std.specs.Prelude.{◌↔◌, ◌==◌, ◌||◌, Bool, Contains, slice_get}
+use Rattle.std.proofs.Common.{◌≡◌, ◌≤◌, ◌<◌, ℕ, List, [], ◌∷◌, ◌++◌, Option, Some, None, true, false, length, get_or, arith, refl, sym, ap, ◌∙◌, subst}
+use Rattle.std.specs.Prelude.{◌↔◌, ◌==◌, Bool, Contains, slice_get}
 use Rattle.std.specs.List.{All}
 use Rattle.std.proofs.lemmas.Bool.{true≢false}
 use Rattle.std.proofs.lemmas.Bool.Decides.{nat_tests}
@@ -20,17 +20,17 @@ use Rattle.dri_meaning.specs.Cores.{opening_core}
 use Rattle.dri_meaning.specs.Phases.{is_holding}
 use Rattle.dri_meaning.specs.Privates.{Private}
 use Rattle.dri_meaning.specs.Worlds.{World}
-use Rattle.dri_meaning.specs.Turns.{kill, one_event, server_turn, turn, turn_of}
+use Rattle.dri_meaning.specs.Turns.{kill, one_event, turn, turn_of}
 use Rattle.dri_meaning.proofs.Going.{Going, going_after}
 use Rattle.dri_shared.specs.States.{IsSameRun, SharedState, world_of}
-use Rattle.dri_world.specs.Courses.{Course, GoesOn, IsPassedOver, IsPastKilling, IsSound, LeavesLess, core_of, is_move, turned}
+use Rattle.dri_world.specs.Courses.{Course, GoesOn, IsPassedOver, IsPastKilling, LeavesLess, core_of, is_move, turned}
 use Rattle.dri_world.specs.Holding.{IsClientOf, IsHeld}
 use Rattle.dri_world.specs.Locks.{core_at}
-use Rattle.dri_world.specs.Turns.{Brings, IsSeated, MayBring, Serves}
+use Rattle.dri_world.specs.Turns.{Brings, IsSeated, MayBring}
 use Rattle.dri_world.specs.declared.lock.Lock.{Lock}
 use Rattle.dri_world.specs.declared.turned.Turned.{Turned}
 use Rattle.dri_world.specs.declared.turned.Turned.TheVariants.{Passed}
-use Rattle.dri_world.proofs.Held.{going, world_is, kill_same, killed_on, may_kill, may_turn, same_run, seated, served_on, server_same, still_on, turn_same, turned_on, unserved_on}
+use Rattle.dri_world.proofs.Held.{going, world_is, kill_same, killed_on, may_kill, may_turn, same_run, seated, still_on, turn_same, turned_on}
 use Rattle.dri_world.proofs.Passing.{killed_exactly, passed_exactly}
 use Rattle.dri_world.proofs.Rounding.{turn_falls}
 

@@ -1,8 +1,8 @@
 -- A world's parts: what its type keeps, and that turns and kills keep it.
-use Rattle.std.proofs.Common.{◌≡◌, ◌≢◌, ◌≤◌, ◌<◌, ◌+◌, ℕ, zero, suc, List, [], ◌∷◌, ◌++◌, Bool, true, false, Option, Some, None, length, arith, refl, sym, ap, ◌∙◌, subst, inl, inr}
+use Rattle.std.proofs.Common.{◌≡◌, ◌≢◌, ◌≤◌, ◌<◌, ℕ, zero, suc, List, [], ◌∷◌, ◌++◌, Bool, true, false, Option, Some, None, length, arith, refl, sym, ap, ◌∙◌, subst, inl, inr}
 use Rattle.std.specs.Prelude.{◌⊎◌, if◌then◌else◌, slice_get}
 use Rattle.std.proofs.Math.ListN.{set, length-set}
-use Rattle.std.proofs.lemmas.Bool.{cases_eq, true≢false}
+use Rattle.std.proofs.lemmas.Bool.{cases_eq}
 use Rattle.std.proofs.lemmas.List.{append-nil}
 use Rattle.std.proofs.lemmas.Option.{get_or_from_slice_get, slice_get_within}
 use Rattle.dri_base.specs.Ranges.{ClientInRange, InRange, client_numbers, heap_bytes}
@@ -12,15 +12,12 @@ use Rattle.dri_base.specs.declared.journal.Event.{Event}
 use Rattle.dri_base.specs.declared.journal.Event.TheVariants.{Gone}
 use Rattle.dri_base.specs.declared.scene.Scene.{Scene}
 use Rattle.dri_base.proofs.RangeLemmas.{IsWellFormed, well_formed}
-use Rattle.dri_driver.specs.Clients.{ClientState, part_of}
-use Rattle.dri_driver.specs.Fits.{Fits}
+use Rattle.dri_driver.specs.Clients.{ClientState}
 use Rattle.dri_meaning.specs.CoreRuns.{IsRun, LegalEvents, after_events}
 use Rattle.dri_meaning.specs.Cores.{Core, Word, entry_of, journal_of, opening_core, with_entry}
-use Rattle.dri_meaning.specs.EntryTable.{LegalEntry, after_entry}
-use Rattle.dri_meaning.specs.EventTable.{LegalEvent, after_event, dying_after, queue_after, word_after, world_after}
+use Rattle.dri_meaning.specs.EventTable.{LegalEvent, after_event, queue_after, word_after, world_after}
 use Rattle.dri_meaning.specs.Phases.{Phase, Out, Old, In, Over, Ask, Asking, Ended, Dead}
 use Rattle.dri_meaning.specs.Runs.{after}
-use Rattle.dri_meaning.specs.TurnLaws.{actor_of}
 use Rattle.dri_meaning.specs.Turns.{core_after, kill, one_event, or_waiting, server_turn, turn, turn_in, turn_of}
 use Rattle.dri_meaning.specs.Worlds.{World, opening}
 use Rattle.dri_meaning.specs.Privates.{opening_part}

@@ -1,15 +1,15 @@
 -- Where a turn and a kill are passed over.
-use Rattle.std.proofs.Common.{◌≡◌, ◌+◌, ◌<◌, ℕ, zero, suc, List, [], ◌∷◌, Bool, true, false, Option, Some, None, arith, refl, sym, ap, ◌∙◌, inl, inr}
+use Rattle.std.proofs.Common.{◌≡◌, ◌+◌, ℕ, zero, suc, List, [], ◌∷◌, Bool, true, false, Option, Some, None, arith, refl, sym, ◌∙◌, inl, inr}
 use Rattle.std.specs.Prelude.{◌⊎◌, ◌↔◌, ◌==◌, ◌&&◌, ◌||◌, if◌then◌else◌, not, nat_lt, length, pred}
 use Rattle.std.proofs.lemmas.Bool.{true≢false, false_from_ne_true}
 use Rattle.std.proofs.lemmas.Bool.Decides.{nat_tests}
 use Rattle.dri_base.specs.Scenes.{command_at, commands_of}
 use Rattle.dri_base.specs.declared.journal.Event.{Event}
-use Rattle.dri_base.specs.declared.journal.Event.TheVariants.{Light, Kernel, Queue, Mark, Stale, LeaveLight, LeaveKernel, Info, Change, Stop, Gone}
+use Rattle.dri_base.specs.declared.journal.Event.TheVariants.{Kernel, Info, Change, Stop, Gone}
 use Rattle.dri_base.specs.declared.scene.Scene.{Scene}
 use Rattle.dri_meaning.specs.Cores.{Core, is_first, is_next, is_queued}
 use Rattle.dri_meaning.specs.Phases.{Phase, Out, Old, In, Over, Ask, Asking, Ended, Dead, is_done, is_holding, wants_in}
-use Rattle.dri_meaning.specs.Turns.{kill, or_waiting, turn, turn_in, turn_of, waiting}
+use Rattle.dri_meaning.specs.Turns.{kill, or_waiting, turn, turn_in, waiting}
 use Rattle.dri_meaning.proofs.Endings.{acts, there}
 use Rattle.dri_meaning.proofs.EventTurns.{first_is, first_queued}
 use Rattle.dri_meaning.proofs.Lively.{Lively}

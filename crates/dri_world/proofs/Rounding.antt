@@ -1,5 +1,5 @@
 -- Turns one after another: rounds, and what they leave to do.
-use Rattle.std.proofs.Common.{◌≡◌, ◌≢◌, ◌≤◌, ◌<◌, ◌+◌, ℕ, zero, suc, List, [], ◌∷◌, ◌++◌, map, take, length, get_or, Bool, true, false, Option, Some, None, arith, refl, sym, ap, ◌∙◌, subst}
+use Rattle.std.proofs.Common.{◌≡◌, ◌≤◌, ◌+◌, ℕ, zero, suc, List, [], ◌∷◌, ◌++◌, map, take, length, Bool, true, false, Option, Some, None, arith, refl, sym, ap, ◌∙◌, subst}
 use Rattle.std.specs.Prelude.{◌↔◌, ◌==◌, ◌&&◌, ◌||◌, is_none, slice_get}
 use Rattle.std.proofs.lemmas.Bool.{true≢false}
 use Rattle.std.proofs.lemmas.Bool.Decides.{nat_tests}
@@ -15,18 +15,16 @@ use Rattle.dri_base.specs.declared.scene.Scene.{Scene}
 use Rattle.dri_base.proofs.RangeLemmas.{well_formed}
 use Rattle.dri_meaning.specs.CoreRuns.{after_events}
 use Rattle.dri_meaning.specs.Cores.{Core, journal_of, opening_core}
-use Rattle.dri_meaning.specs.EventTable.{after_event}
-use Rattle.dri_meaning.specs.Measures.{one_if, work_left}
+use Rattle.dri_meaning.specs.Measures.{work_left}
 use Rattle.dri_meaning.specs.Runs.{Whole}
-use Rattle.dri_meaning.specs.Turns.{IsTurns, all_pass, core_after, item_event, one_event, played, round, rounds, turn, turns_and_rounds}
+use Rattle.dri_meaning.specs.Turns.{all_pass, core_after, item_event, one_event, played, round, rounds, turn}
 use Rattle.dri_meaning.proofs.Going.{Going, going_after, turn_less}
 use Rattle.dri_meaning.proofs.Rounds.{after_append, played_append}
 use Rattle.dri_meaning.proofs.RoundsEnd.{more_rounds}
 use Rattle.dri_meaning.proofs.RunLaws.{whole_where_passed}
-use Rattle.dri_world.specs.Courses.{Course, GoesOn, IsPlayedIn, IsPlayedOn, IsPlayedOut, IsSound, LeavesLess, MayTake, core_of, is_move, turned}
+use Rattle.dri_world.specs.Courses.{Course, GoesOn, IsPlayedIn, IsPlayedOn, IsSound, LeavesLess, MayTake, core_of, is_move, turned}
 use Rattle.dri_world.proofs.Places.{some_one}
 use Rattle.dri_world.specs.declared.turned.Turned.{Turned}
-use Rattle.dri_world.specs.declared.turned.Turned.TheVariants.{Did, Passed}
 
 -- the core after more events
 pub core_on : (old new : Course) (more : List Event) → GoesOn old new more → core_of new ≡ after_events old.scene (core_of old) more

@@ -1,8 +1,7 @@
 -- Whose event a turn brings, and what it leaves to the others.
-use Rattle.std.proofs.Common.{◌≡◌, ◌≢◌, ◌<◌, ◌+◌, ℕ, zero, suc, List, [], ◌∷◌, ◌++◌, Bool, true, false, Option, Some, None, arith, refl, sym, ap, ◌∙◌}
+use Rattle.std.proofs.Common.{◌≡◌, ◌≢◌, ◌<◌, ◌+◌, ℕ, zero, suc, [], ◌∷◌, Bool, true, false, Option, Some, None, arith, refl}
 use Rattle.std.specs.Prelude.{◌==◌, ◌&&◌, ◌||◌, if◌then◌else◌, not, nat_lt, length}
 use Rattle.std.specs.List.{All}
-use Rattle.std.proofs.lemmas.Bool.{true≢false}
 use Rattle.std.proofs.lemmas.Bool.Decides.{nat_tests}
 use Rattle.dri_base.specs.Scenes.{command_at}
 use Rattle.dri_base.specs.declared.command.Command.{Command}
@@ -13,8 +12,7 @@ use Rattle.dri_base.specs.declared.journal.Event.{Event}
 use Rattle.dri_base.specs.declared.journal.Event.TheVariants.{Light, Kernel, Queue, Mark, Stale, Emit, Place, Run, LeaveLight, LeaveKernel, Info, Change, Stop, Gone}
 use Rattle.dri_base.specs.declared.scene.Scene.{Scene}
 use Rattle.dri_meaning.specs.Cores.{Core, entry_of, is_first, is_next, is_queued}
-use Rattle.dri_meaning.specs.EntryTable.{after_entry}
-use Rattle.dri_meaning.specs.EventTable.{after_event, dying_after, queue_after, word_after, world_after}
+use Rattle.dri_meaning.specs.EventTable.{dying_after, world_after}
 use Rattle.dri_meaning.specs.Phases.{Phase, Out, Old, In, Over, Ask, Asking, Ended, Dead, is_done, is_holding}
 use Rattle.dri_meaning.specs.Privates.{textured_with}
 use Rattle.dri_meaning.specs.Runs.{client_of}

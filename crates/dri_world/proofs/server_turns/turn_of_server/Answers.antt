@@ -1,4 +1,4 @@
-use Rattle.std.proofs.Common.{◌≡◌, ◌<◌, length, false, sym, arith}
+use Rattle.std.proofs.Common.{◌<◌, length, false, sym, arith}
 use Rattle.dri_shared.specs.States.{world_of}
 use Rattle.dri_world.specs.Locks.{core_at}
 use Rattle.dri_world.proofs.Whose.{server_waits}

@@ -1,6 +1,5 @@
-use Rattle.std.proofs.Common.{◌≡◌, ◌+◌, rules}
-use Rattle.std.specs.Prelude.{Err}
-use Rattle.dri_world.proofs.Rounding.{PlaysRounds, part_on, passed_after, round_on, whole_by}
+use Rattle.std.proofs.Common.{◌+◌, rules}
+use Rattle.dri_world.proofs.Rounding.{part_on, passed_after, round_on, whole_by}
 use Rattle.dri_world.proofs.world.World.finish.Goals as goal
 
 pub returns-in_err-moves-clause-err : goal.returns-in_err-moves-clause-err

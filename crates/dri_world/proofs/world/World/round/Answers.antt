@@ -1,4 +1,4 @@
-use Rattle.std.proofs.Common.{◌≡◌, ◌∙◌, ◌+◌, ℕ, Some, length, take, ap, sym, subst, rules, arith}
+use Rattle.std.proofs.Common.{◌≡◌, ◌∙◌, Some, length, take, ap, sym, subst, rules, arith}
 use Rattle.std.specs.Prelude.{◌||◌, slice_get}
 use Rattle.dri_world.proofs.Places.{number_at}
 use Rattle.dri_base.specs.Ranges.{client_numbers}
