@@ -1,6 +1,7 @@
 pub mod Counted
 pub mod Classes
 pub mod Choosing
+pub mod Passing
 pub mod Ordering
 pub mod Heaped
 pub mod Losing

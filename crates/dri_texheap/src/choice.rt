@@ -1,5 +1,6 @@
 //! The choice of a run. The classes that may be freed are those with an age below a bound, which rises from class to
-//! class until so many neighbours are free or below it.
+//! class until so many neighbours are free or below it. Each bound takes two passes over the regions, so a choice is at
+//! worst quadratic in them.
 
 ghost use Rattle.std.specs.Prelude.{◌≡◌, ◌+◌, ◌-◌, ◌<◌, ◌≤◌, ℕ, length, true, get_or, MatchOption, IfSome};
 ghost use Rattle.dri_texheap.specs.RegionStates.{heap_from};
@@ -14,21 +15,8 @@ fn is_available(used: &[bool], ages: &[u32], bound: u32, i: usize) -> bool
     !used[i] || ages[i] < bound
 }
 
-// Whether k neighbouring regions are available.
-fn are_available(used: &[bool], ages: &[u32], bound: u32, first: usize, k: usize) -> bool
-    requires used { first + k ≤ length used.now }
-    requires ages { first + k ≤ length ages.now }
-    ensures { result ≡ are_available (heap_from 0 used.now ages.now) bound first k }
-{
-    for j in 0..k {
-        if !is_available(used, ages, bound, first + j) {
-            return false;
-        }
-    }
-    true
-}
-
 // The lowest place of k available neighbours.
+#[tactic(auto, using(crate::proofs::Passing::passed_place))]
 fn lowest_place(used: &[bool], ages: &[u32], count: usize, bound: u32, k: usize) -> Option<usize>
     requires used { count ≤ length used.now }
     requires ages { count ≤ length ages.now }
@@ -37,12 +25,17 @@ fn lowest_place(used: &[bool], ages: &[u32], count: usize, bound: u32, k: usize)
     ensures inside { IfSome result (λ first. first + k ≤ count) }
     ensures holds { IfSome result (λ first. are_available (heap_from 0 used.now ages.now) bound first k ≡ true) }
 {
-    for first in 0..count - k + 1 {
-        if are_available(used, ages, bound, first, k) {
+    // All from `first` up to i are available, and k of them begin nowhere before it.
+    let mut first = 0;
+    for i in 0..count {
+        if i - first == k {
             return Some(first);
         }
+        if !is_available(used, ages, bound, i) {
+            first = i + 1;
+        }
     }
-    None
+    (count - first == k).then_some(first)
 }
 
 // The lesser of two ages, of which one may be missing.

@@ -69,7 +69,7 @@ impl Placed {
         Ok(Placed { runs })
     }
 
-    /// Where a texture is placed.
+    /// Where a texture is placed: `None` where it isn't placed, or where there is no such texture.
     pub fn resident(&self, texture: u32) -> Option<Run>
         ensures { result ≡ placed_of self.now texture }
     {
@@ -82,7 +82,7 @@ impl Placed {
         }
     }
 
-    /// Places a texture.
+    /// Places a texture. Its number is 1 to the number of textures that `new` was given.
     pub fn set(&mut self, texture: u32, run: Run)
         requires first { 1 ≤ texture }
         requires last { texture ≤ length self.old }

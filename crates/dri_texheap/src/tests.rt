@@ -47,6 +47,28 @@ fn perform(rt: &impl Abort, regions: &mut Regions, step: &Step, first: u32) -> R
     }
 }
 
+/// Does steps in turn: each one's run begins at that region, and the global age is that age then.
+fn perform_each(rt: &impl Abort, regions: &mut Regions, rows: &[(Step, u32, u32)]) {
+    for (step, first, age) in rows {
+        assert_eq!(rt; perform(rt, regions, step, *first).first, *first);
+        assert_eq!(rt; regions.age(), *age);
+    }
+}
+
+/// Looks at the entries from entry 0 on: the next, the previous, whether it is in use, and its age.
+fn look_at_entries(rt: &impl Abort, regions: &Regions, entries: &[(u8, u8, u8, u32)]) {
+    for (i, (next, prev, in_use, age)) in entries.iter().enumerate() {
+        let entry = TexRegion {
+            next: *next,
+            prev: *prev,
+            in_use: *in_use,
+            age: *age,
+        };
+        assert!(rt; i <= regions.count() as usize);
+        assert_eq!(rt; regions.region(i as u32), entry);
+    }
+}
+
 #[test]
 fn eight_regions(rt: HostRuntime) {
     let mut regions = Regions::new(8);
@@ -64,10 +86,7 @@ fn eight_regions(rt: HostRuntime) {
         // Three classes go: region 0, region 6, and regions 1 and 2.
         (Step::Allocate(3), 0, 11),
     ];
-    for (row, first, age) in &rows {
-        assert_eq!(rt; perform(&rt, &mut regions, row, *first).first, *first);
-        assert_eq!(rt; regions.age(), *age);
-    }
+    perform_each(&rt, &mut regions, &rows);
     let entries = [
         (1, 8, 1, 11),
         (2, 0, 1, 11),
@@ -80,16 +99,7 @@ fn eight_regions(rt: HostRuntime) {
         (0, 7, 0, 0),
     ];
     assert_eq!(rt; regions.count(), 8);
-    for (i, (next, prev, in_use, age)) in entries.iter().enumerate() {
-        let entry = TexRegion {
-            next: *next,
-            prev: *prev,
-            in_use: *in_use,
-            age: *age,
-        };
-        assert!(rt; i <= 8);
-        assert_eq!(rt; regions.region(i as u32), entry);
-    }
+    look_at_entries(&rt, &regions, &entries);
     // Two classes go at once: regions 3 and 4, and region 5.
     assert_eq!(rt; perform(&rt, &mut regions, &Step::Allocate(4), 3).first, 3);
     assert_eq!(rt; regions.age(), 13);
