@@ -1,5 +1,4 @@
 pub mod Comparing
-pub mod Filling
 pub mod Gaining
 pub mod Painting
 pub mod Placing
