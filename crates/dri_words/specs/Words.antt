@@ -1,5 +1,5 @@
 -- Words of a line, read from the left: a value, and the words after it.
-use Rattle.std.specs.Prelude.{ℕ, ◌+◌, ◌-◌, ◌*◌, List, [], ◌∷◌, ℤ, pos, neg_ℤ, ◌&&◌, ◌==◌, nat_lt, nat_le, if◌then◌else◌, Some, None}
+use Rattle.std.specs.Prelude.{◌≡◌, ◌<◌, ◌↔◌, decimal, ℕ, ◌+◌, ◌-◌, ◌*◌, List, [], ◌∷◌, ℤ, pos, neg_ℤ, ◌&&◌, ◌==◌, nat_lt, nat_le, if◌then◌else◌, Some, None}
 use Rattle.std.specs.Char.{is_ascii_digit}
 use Rattle.std.specs.declared.option.Option.{Option}
 use Rattle.dri_base.specs.declared.colour.Rgb.{Rgb}
@@ -21,6 +21,10 @@ digits_from n (c ∷ cs) = if is_ascii_digit c && nat_lt n 1000000000 then digit
 abbrev pub number_of : List ℕ → Option ℕ
 number_of [] = None
 number_of (c ∷ cs) = if c == 48 then (if is_nil cs then Some 0 else None) else digits_from 0 (c ∷ cs)
+
+-- law: a word spells a number exactly where it is the number's decimal digits, of which there are at most ten
+abbrev pub NumbersAreDecimal : Type 0
+NumbersAreDecimal = (word : List ℕ) (n : ℕ) → (number_of word ≡ Some n) ↔ ((n < 10000000000) × (word ≡ decimal n))
 
 -- a hexadecimal digit in lower case
 abbrev pub nibble_of : ℕ → Option ℕ

@@ -10,4 +10,4 @@ mod words;
 pub use parts::Parts;
 pub use ranges::{signed_within, within};
 pub use reason::Reason;
-pub use words::{alone, colour, colour_alpha, number, word};
+pub use words::{alone, colour, colour_alpha, number, numbers_are_decimal, word};

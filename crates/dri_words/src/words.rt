@@ -4,7 +4,7 @@
 
 ghost use Rattle.std.specs.Prelude.{◌≡◌, ◌<◌, IfSome};
 ghost use Rattle.std.specs.Option.{option_map};
-ghost use Rattle.dri_words.specs.Words.{alone, negative_of, colour_alpha_at, colour_alpha_of, signed_of, byte_of, colour_at, colour_of, digits_from, nibble_of, number_at, number_of, word_at};
+ghost use Rattle.dri_words.specs.Words.{NumbersAreDecimal, alone, negative_of, colour_alpha_at, colour_alpha_of, signed_of, byte_of, colour_at, colour_of, digits_from, nibble_of, number_at, number_of, word_at};
 
 use crate::parts::Parts;
 use dri_base::{Rgb, Rgba};
@@ -36,6 +36,11 @@ fn number_of(word: &[u8]) -> Option<u64>
         _ => digits(word),
     }
 }
+
+/// A word spells a number exactly where it is the number's decimal digits. It does nothing: its contract is the law.
+pub fn numbers_are_decimal()
+    ensures { NumbersAreDecimal }
+{}
 
 /// The value of a hexadecimal digit in lower case.
 fn nibble_of(c: u8) -> Option<u8>
