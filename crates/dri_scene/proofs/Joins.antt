@@ -1,7 +1,8 @@
 -- Texts that grow piece by piece.
-use Rattle.std.proofs.Common.{◌≡◌, ℕ, List, [], ◌∷◌, ◌++◌, map, codes, Result, Ok, Err, OnOk, refl, sym, ap, ◌∙◌, append_assoc}
+use Rattle.std.proofs.Common.{◌≡◌, ◌+◌, ◌<◌, ℕ, List, take, length, [], ◌∷◌, ◌++◌, map, codes, Result, Ok, Err, OnOk, refl, sym, ap, ◌∙◌, append_assoc}
 use Rattle.std.specs.List.{flat_map}
-use Rattle.std.proofs.lemmas.List.{append-nil}
+use Rattle.std.proofs.Math.ListN.{get_or}
+use Rattle.std.proofs.lemmas.List.{append-nil, take_more}
 use Rattle.std.proofs.lemmas.Grind.{flat_map-append}
 use Rattle.dri_base.specs.declared.scene.Scene.{Scene}
 use Rattle.dri_base.specs.declared.scene.ClientScript.{ClientScript}
@@ -67,3 +68,9 @@ scene_pieces s =
     let behind_windows = flat_map-append line_bytes clients (server ++ (turns ++ done)) ∙ ap (λ (t : List ℕ). flat_map line_bytes clients ++ t) behind_clients ∙ ap (λ (t : List ℕ). t ++ (flat_map line_bytes server ++ (flat_map line_bytes turns ++ codes "done\n"))) (client_pieces s.clients) in
     let behind_head = mapped_lines window_words s.windows (lines_behind_windows s) ∙ ap (λ (t : List ℕ). flat_map (λ w. line_bytes (window_words w)) s.windows ++ t) behind_windows in
     sym (flat_map-append line_bytes (head_lines s) (map window_words s.windows ++ lines_behind_windows s) ∙ ap (λ (t : List ℕ). flat_map line_bytes (head_lines s) ++ t) behind_head)
+
+-- the pieces of the elements so far, and the next one's
+pub next_piece : {X : Type 0} (f : X → List ℕ) (xs : List X) (i : ℕ) (d : X) {t u v : List ℕ} → i < length xs → Adds t (flat_map f (take i xs)) u → Adds u (f (get_or xs i d)) v → Adds t (flat_map f (take (i + 1) xs)) v
+next_piece f xs i d less before piece =
+    let last : flat_map f (get_or xs i d ∷ []) ≡ f (get_or xs i d) = append-nil (f (get_or xs i d)) in
+    adds_same (joined before piece) (sym (ap (flat_map f) (take_more xs i d less) ∙ flat_map-append f (take i xs) (get_or xs i d ∷ []) ∙ ap (λ y. flat_map f (take i xs) ++ y) last))

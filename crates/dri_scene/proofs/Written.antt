@@ -1,46 +1,10 @@
 -- A number that is written in digits is read again.
-use Rattle.std.proofs.Common.{◌≡◌, ℕ, zero, suc, ◌+◌, ◌-◌, ◌*◌, ◌/◌, ◌%◌, ◌<◌, ◌≤◌, Bool, true, false, cond, eqb, List, [], ◌∷◌, ◌++◌, get_or, Some, None, Option, ℤ, pos, negsuc, neg_ℤ, refl, ap, ◌∙◌, arith}
+use Rattle.std.proofs.Common.{◌≡◌, ℕ, zero, suc, ◌<◌, cond, eqb, List, [], ◌∷◌, get_or, Some, None, Option, ℤ, pos, negsuc, neg_ℤ, ap, ◌∙◌, arith}
 use Rattle.std.proofs.lemmas.Bool.{ne_eqb}
-use Rattle.std.proofs.lemmas.Bool.Decides.{nat_tests}
-use Rattle.std.proofs.lemmas.Fmt.{decimal_digit, decimal_by_steps, first_decimal}
-use Rattle.std.specs.Char.{is_ascii_digit}
-use Rattle.std.specs.Prelude.{◌&&◌, nat_lt}
+use Rattle.std.proofs.lemmas.Fmt.{decimal_digit, first_decimal}
 use Rattle.std.specs.Fmt.{decimal, signed_decimal}
-use Rattle.dri_words.specs.Words.{◌>>=◌, digits_from, number_of, signed_of, number_at}
-
--- one more digit at the end
-digits_push : (n : ℕ) (ds : List ℕ) (c : ℕ) → digits_from n (ds ++ c ∷ []) ≡ (digits_from n ds >>= λ m. digits_from m (c ∷ []))
-digits_push n [] c = refl
-digits_push n (d ∷ ds) c = chosen (is_ascii_digit d && nat_lt n 1000000000) (digits_push (n * 10 + (d - 48)) ds c) where
-  chosen : (b : Bool) → digits_from (n * 10 + (d - 48)) (ds ++ c ∷ []) ≡ (digits_from (n * 10 + (d - 48)) ds >>= λ m. digits_from m (c ∷ []))
-      → cond b (digits_from (n * 10 + (d - 48)) (ds ++ c ∷ [])) None ≡ (cond b (digits_from (n * 10 + (d - 48)) ds) None >>= λ m. digits_from m (c ∷ []))
-  chosen true later = later
-  chosen false later = refl
-
--- a digit behind a small number
-one_digit : (m d : ℕ) → d < 10 → m < 1000000000 → digits_from m ((48 + d) ∷ []) ≡ Some (m * 10 + d)
-one_digit m d small below = grind (arith, nat_tests)
-
--- the digits of a number spell it
-digits_decimal_read : (n : ℕ) → n < 10000000000 → digits_from 0 (decimal n) ≡ Some n
-digits_decimal_read n small = decimal_by_steps (λ n ds. n < 10000000000 → digits_from 0 ds ≡ Some n) one more n (omega arith) small where
-  one : (n : ℕ) → n < 10 → n < 10000000000 → digits_from 0 ((48 + n) ∷ []) ≡ Some n
-  one n below small = one_digit 0 n below (omega arith) ∙ ap Some (omega arith)
-
-  more : (n : ℕ) (ds : List ℕ) → 10 ≤ n → (n / 10 < 10000000000 → digits_from 0 ds ≡ Some (n / 10)) → n < 10000000000 → digits_from 0 (ds ++ ((48 + n % 10) ∷ [])) ≡ Some n
-  more n ds large before small =
-      digits_push 0 ds (48 + n % 10) ∙ ap (λ r. r >>= λ m. digits_from m ((48 + n % 10) ∷ [])) (before (omega arith))
-      ∙ one_digit (n / 10) (n % 10) (omega arith) (omega arith) ∙ ap Some (omega arith)
-
--- digits of which the first isn't 0
-number_of_digits : (ds : List ℕ) → 48 < get_or ds 0 0 → number_of ds ≡ digits_from 0 ds
-number_of_digits [] first = absurd (omega arith)
-number_of_digits (c ∷ cs) first = rw (ne_eqb c 48 (λ e. omega arith)) refl
-
--- a written number is read again
-pub decimal_read : (n : ℕ) → n < 10000000000 → number_of (decimal n) ≡ Some n
-decimal_read zero small = ap number_of (decimal_digit 0 (omega arith))
-decimal_read (suc n) small = number_of_digits (decimal (suc n)) (first_decimal (suc n) (omega arith) (omega arith)) ∙ digits_decimal_read (suc n) small
+use Rattle.dri_words.specs.Words.{◌>>=◌, number_of, signed_of, number_at}
+use Rattle.dri_words.proofs.Decimals.{decimal_read}
 
 -- digits are no minus sign
 digits_signed : (ds : List ℕ) (n : ℕ) → 45 < get_or ds 0 0 → number_of ds ≡ Some n → signed_of ds ≡ Some (pos n)

@@ -1,5 +1,5 @@
 -- The numbers of a scene that its types bound: bytes, and numbers of sixteen bits.
-use Rattle.std.specs.Prelude.{◌≡◌, ◌<◌, All, Ok}
+use Rattle.std.specs.Prelude.{◌<◌, All}
 use Rattle.dri_base.specs.declared.colour.Rgb.{Rgb}
 use Rattle.dri_base.specs.declared.colour.Rgba.{Rgba}
 use Rattle.dri_base.specs.declared.command.Command.{Command}
@@ -8,9 +8,6 @@ use Rattle.dri_base.specs.declared.scene.ClientScript.{ClientScript}
 use Rattle.dri_base.specs.declared.scene.Scene.{Scene}
 use Rattle.dri_base.specs.declared.shape.Vertex.{Vertex}
 use Rattle.dri_base.specs.declared.texture.Texture.{Texture}
-use Rattle.dri_base.specs.Ranges.{InRange}
-use Rattle.dri_scene.specs.Readings.{scene_of}
-use Rattle.dri_scene.specs.Texts.{scene_text}
 
 -- three bytes
 pub record IsColour (c : Rgb) : Type 0 where
@@ -52,7 +49,3 @@ pub record IsStored (s : Scene) : Type 0 where
   pub root : IsColour s.root
   pub windows : All (λ w. IsColour w.background) s.windows
   pub clients : All IsStoredClient s.clients
-
--- law: the text of a scene in range, whose numbers are ones that their types hold, reads back as the scene
-abbrev pub TextReadsBack : Type 0
-TextReadsBack = (s : Scene) → InRange s → IsStored s → scene_of (scene_text s) ≡ Ok s

@@ -23,4 +23,4 @@ mod words;
 
 pub use fault::SceneFault;
 pub use part::{Part, read_scene, read_scene_part};
-pub use print::{print_scene, text_reads_back};
+pub use print::print_scene;

@@ -1,9 +1,10 @@
 //! The printer of a scene's text: a line for each part of the scene, in the order of the sections.
 
-ghost use Rattle.std.specs.Prelude.{◌≡◌, ◌++◌, ◌∷◌, [], codes, decimal, map, IfOk, OnOk};
+ghost use Rattle.std.specs.Prelude.{◌≡◌, ◌++◌, ◌∷◌, [], All, codes, decimal, map, IfOk, Ok, OnOk};
 ghost use Rattle.std.specs.List.{flat_map};
 ghost use Rattle.dri_base.specs.Ranges.{InRange};
-ghost use Rattle.dri_scene.specs.Stored.{TextReadsBack};
+ghost use Rattle.dri_scene.specs.Readings.{scene_of};
+ghost use Rattle.dri_scene.specs.Stored.{IsColour, IsStoredClient, IsStoredCommand, IsStoredTexture};
 ghost use Rattle.dri_scene.specs.Texts.{Adds, block_lines, change_words, client_lines, command_words, format_word, head_lines, item_words, line_bytes, mapped_word, scene_text, screen_words, texture_words, window_words};
 ghost use Rattle.dri_base.specs.declared.command.Change.TheVariants as Change;
 
@@ -19,7 +20,8 @@ use std::alloc::{AllocError, Global};
 
 /// `window W X Y WIDTH HEIGHT RRGGBB OWNER up`, or `down`
 fn push_window(text: &mut Vec<u8>, window: &Window) -> Result<(), AllocError>
-    ensures { OnOk result (Adds text.old.items (line_bytes (window_words window.now)) text.new.items) }
+    ensures text { OnOk result (Adds text.old.items (line_bytes (window_words window.now)) text.new.items) }
+    ensures stored { OnOk result (IsColour window.now.background) }
 {
     push_bytes(text, b"window")?;
     push_number(text, window.number)?;
@@ -66,7 +68,8 @@ fn push_format(text: &mut Vec<u8>, format: TexFormat) -> Result<(), AllocError>
 
 /// `texture T l8 WIDTH HEIGHT HEX`, or `rgb565`
 fn push_texture(text: &mut Vec<u8>, texture: &Texture) -> Result<(), AllocError>
-    ensures { OnOk result (Adds text.old.items (line_bytes (texture_words texture.now)) text.new.items) }
+    ensures text { OnOk result (Adds text.old.items (line_bytes (texture_words texture.now)) text.new.items) }
+    ensures stored { OnOk result (IsStoredTexture texture.now) }
 {
     push_bytes(text, b"texture")?;
     push_number(text, texture.number)?;
@@ -163,7 +166,8 @@ fn push_item(text: &mut Vec<u8>, item: &Item) -> Result<(), AllocError>
 
 /// `screen W H RRGGBB`
 fn push_screen(text: &mut Vec<u8>, scene: &Scene) -> Result<(), AllocError>
-    ensures { OnOk result (Adds text.old.items (line_bytes (screen_words scene.now)) text.new.items) }
+    ensures text { OnOk result (Adds text.old.items (line_bytes (screen_words scene.now)) text.new.items) }
+    ensures stored { OnOk result (IsColour scene.now.root) }
 {
     push_bytes(text, b"screen")?;
     push_number(text, scene.width)?;
@@ -174,7 +178,8 @@ fn push_screen(text: &mut Vec<u8>, scene: &Scene) -> Result<(), AllocError>
 
 /// The lines of the head.
 fn push_head(text: &mut Vec<u8>, scene: &Scene) -> Result<(), AllocError>
-    ensures { OnOk result (Adds text.old.items (flat_map line_bytes (head_lines scene.now)) text.new.items) }
+    ensures text { OnOk result (Adds text.old.items (flat_map line_bytes (head_lines scene.now)) text.new.items) }
+    ensures stored { OnOk result (IsColour scene.now.root) }
 {
     push_bytes(text, b"dri 1\n")?;
     push_screen(text, scene)?;
@@ -183,7 +188,8 @@ fn push_head(text: &mut Vec<u8>, scene: &Scene) -> Result<(), AllocError>
 
 /// The lines of the windows.
 fn push_windows(text: &mut Vec<u8>, windows: &Windows) -> Result<(), AllocError>
-    ensures { OnOk result (Adds text.old.items (flat_map (λ w. line_bytes (window_words w)) windows.now) text.new.items) }
+    ensures text { OnOk result (Adds text.old.items (flat_map (λ w. line_bytes (window_words w)) windows.now) text.new.items) }
+    ensures stored { OnOk result (All (λ w. IsColour w.background) windows.now) }
 {
     for window in windows.as_slice() {
         push_window(text, window)?;
@@ -193,7 +199,8 @@ fn push_windows(text: &mut Vec<u8>, windows: &Windows) -> Result<(), AllocError>
 
 /// The lines of a client's textures.
 fn push_textures(text: &mut Vec<u8>, textures: &Textures) -> Result<(), AllocError>
-    ensures { OnOk result (Adds text.old.items (flat_map (λ t. line_bytes (texture_words t)) textures.now) text.new.items) }
+    ensures text { OnOk result (Adds text.old.items (flat_map (λ t. line_bytes (texture_words t)) textures.now) text.new.items) }
+    ensures stored { OnOk result (All IsStoredTexture textures.now) }
 {
     for texture in textures.as_slice() {
         push_texture(text, texture)?;
@@ -203,7 +210,8 @@ fn push_textures(text: &mut Vec<u8>, textures: &Textures) -> Result<(), AllocErr
 
 /// The lines of a client's commands.
 fn push_commands(text: &mut Vec<u8>, commands: &Commands) -> Result<(), AllocError>
-    ensures { OnOk result (Adds text.old.items (flat_map (λ c. line_bytes (command_words c)) commands.now) text.new.items) }
+    ensures text { OnOk result (Adds text.old.items (flat_map (λ c. line_bytes (command_words c)) commands.now) text.new.items) }
+    ensures stored { OnOk result (All IsStoredCommand commands.now) }
 {
     for command in commands.as_slice() {
         push_command(text, command)?;
@@ -213,7 +221,8 @@ fn push_commands(text: &mut Vec<u8>, commands: &Commands) -> Result<(), AllocErr
 
 /// The lines of a client's block.
 fn push_client(text: &mut Vec<u8>, client: &ClientScript) -> Result<(), AllocError>
-    ensures { OnOk result (Adds text.old.items (flat_map line_bytes (client_lines client.now)) text.new.items) }
+    ensures text { OnOk result (Adds text.old.items (flat_map line_bytes (client_lines client.now)) text.new.items) }
+    ensures stored { OnOk result (IsStoredClient client.now) }
 {
     push_twice_numbered(text, b"client", client.number, client.window)?;
     push_textures(text, &client.textures)?;
@@ -223,7 +232,8 @@ fn push_client(text: &mut Vec<u8>, client: &ClientScript) -> Result<(), AllocErr
 
 /// The lines of the clients' blocks.
 fn push_clients(text: &mut Vec<u8>, clients: &Clients) -> Result<(), AllocError>
-    ensures { OnOk result (Adds text.old.items (flat_map (λ c. flat_map line_bytes (client_lines c)) clients.now) text.new.items) }
+    ensures text { OnOk result (Adds text.old.items (flat_map (λ c. flat_map line_bytes (client_lines c)) clients.now) text.new.items) }
+    ensures stored { OnOk result (All IsStoredClient clients.now) }
 {
     for client in clients.as_slice() {
         push_client(text, client)?;
@@ -276,10 +286,11 @@ fn push_turns(text: &mut Vec<u8>, items: &Items) -> Result<(), AllocError>
 }
 
 /// The text of a scene, without lines that are passed over. A server or turns block stands exactly where its list isn't
-/// empty.
+/// empty. Read again, the text gives the scene.
 pub fn print_scene(alloc: Global, scene: &Scene) -> Result<Bytes, OutOfMemory>
     requires { InRange scene.now }
     ensures text { IfOk result (λ bytes. bytes ≡ scene_text scene.now) }
+    ensures read { IfOk result (λ bytes. scene_of bytes ≡ Ok scene.now) }
 {
     let mut text = Vec::new(alloc);
     push_head(&mut text, scene)?;
@@ -290,8 +301,3 @@ pub fn print_scene(alloc: Global, scene: &Scene) -> Result<Bytes, OutOfMemory>
     push_bytes(&mut text, b"done\n")?;
     Ok(Bytes::from_vec(text))
 }
-
-/// The text of each scene in range reads back as the scene. It does nothing: its contract is the law.
-pub fn text_reads_back()
-    ensures { TextReadsBack }
-{}

@@ -3,6 +3,7 @@
 ghost use Rattle.std.specs.Prelude.{◌≡◌, ◌++◌, ◌∷◌, [], ℕ, List, codes, decimal, Some, OnOk};
 ghost use Rattle.dri_base.specs.declared.command.Command.TheVariants as Command;
 ghost use Rattle.dri_base.specs.declared.state.Setting.TheVariants as Setting;
+ghost use Rattle.dri_scene.specs.Stored.{IsCorner, IsStoredCommand};
 ghost use Rattle.dri_scene.specs.Texts.{Adds, blend_word, command_words, corner_words, depth_func_word, line_bytes, setting_words, shade_word, switch_word, tex_mode_word, words_bytes, wrap_word};
 
 use crate::words::{
@@ -132,7 +133,8 @@ fn push_setting(text: &mut Vec<u8>, setting: &Setting) -> Result<(), AllocError>
 
 /// `clear RRGGBB Z`
 fn push_clear(text: &mut Vec<u8>, colour: Rgb, depth: u16) -> Result<(), AllocError>
-    ensures { OnOk result (Adds text.old.items (line_bytes (command_words (Command.Clear colour depth))) text.new.items) }
+    ensures text { OnOk result (Adds text.old.items (line_bytes (command_words (Command.Clear colour depth))) text.new.items) }
+    ensures stored { OnOk result (IsStoredCommand (Command.Clear colour depth)) }
 {
     push_bytes(text, b"clear")?;
     push_colour(text, colour)?;
@@ -142,7 +144,8 @@ fn push_clear(text: &mut Vec<u8>, colour: Rgb, depth: u16) -> Result<(), AllocEr
 
 /// The words of a corner, each behind a space.
 fn push_corner(text: &mut Vec<u8>, vertex: &Vertex) -> Result<(), AllocError>
-    ensures { OnOk result ((more : List (List ℕ)) → Adds text.old.items (words_bytes (corner_words vertex.now more)) (text.new.items ++ words_bytes more)) }
+    ensures text { OnOk result ((more : List (List ℕ)) → Adds text.old.items (words_bytes (corner_words vertex.now more)) (text.new.items ++ words_bytes more)) }
+    ensures stored { OnOk result (IsCorner vertex.now) }
 {
     push_signed(text, vertex.x)?;
     push_signed(text, vertex.y)?;
@@ -154,7 +157,8 @@ fn push_corner(text: &mut Vec<u8>, vertex: &Vertex) -> Result<(), AllocError>
 
 /// `triangle` and three corners
 fn push_triangle(text: &mut Vec<u8>, triangle: &Triangle) -> Result<(), AllocError>
-    ensures { OnOk result (Adds text.old.items (line_bytes (command_words (Command.Triangle triangle.now))) text.new.items) }
+    ensures text { OnOk result (Adds text.old.items (line_bytes (command_words (Command.Triangle triangle.now))) text.new.items) }
+    ensures stored { OnOk result (IsStoredCommand (Command.Triangle triangle.now)) }
 {
     push_bytes(text, b"triangle")?;
     push_corner(text, &triangle.a)?;
@@ -165,7 +169,8 @@ fn push_triangle(text: &mut Vec<u8>, triangle: &Triangle) -> Result<(), AllocErr
 
 /// A command's line.
 pub fn push_command(text: &mut Vec<u8>, command: &Command) -> Result<(), AllocError>
-    ensures { OnOk result (Adds text.old.items (line_bytes (command_words command.now)) text.new.items) }
+    ensures text { OnOk result (Adds text.old.items (line_bytes (command_words command.now)) text.new.items) }
+    ensures stored { OnOk result (IsStoredCommand command.now) }
 {
     match command {
         Command::Set(setting) => push_setting(text, setting),

@@ -1,6 +1,6 @@
 //! Worked texts: what is read and printed, where a text ends too early, and one damaged line for each reason and form.
 
-use crate::{Part, SceneFault, print_scene, read_scene, read_scene_part, text_reads_back};
+use crate::{Part, SceneFault, print_scene, read_scene, read_scene_part};
 use dri_words::Reason;
 use std::alloc::Global;
 use std::process::Abort;
@@ -25,11 +25,14 @@ const BLOCK: &str =
 const TURNS: &str =
     "dri 1\nscreen 4 4 000040\nheap 2 256\nwindow 2 0 0 4 4 101010 1 up\nclient 1 2\nend\nturns\n";
 
+/// A scene up to a change; the next line is line 7.
+const CHANGES: &str =
+    "dri 1\nscreen 4 4 000040\n\nheap 2 256\nwindow 2 0 0 4 4 101010 1 up\nserver\n";
+
 #[test]
 fn read_and_printed(rt: HostRuntime) -> Result<(), Fail> {
     let scene = read_scene(rt.alloc(), WHOLE)?;
     assert_eq!(rt; print_scene(rt.alloc(), &scene)?.as_slice(), WHOLE);
-    text_reads_back();
     let (first, part) = read_scene_part(
         rt.alloc(),
         b"dri 1\nscreen 1 1 000040\n\nheap 1 256\ndone\nmore\n",
@@ -58,6 +61,12 @@ fn line_of_end(text: &[u8]) -> u32 {
 
 #[test]
 fn ended(rt: HostRuntime) -> Result<(), Fail> {
+    let fault = SceneFault::Refused {
+        line: 4,
+        reason: Reason::Ended,
+    };
+    let unended = b"dri 1\nscreen 1 1 000040\nheap 1 256\ndone";
+    assert_eq!(rt; read_scene(rt.alloc(), unended).err(), Some(fault));
     for size in 0..DRAWN.len() {
         let (front, _) = DRAWN.split_at(size);
         let fault = SceneFault::Refused {
@@ -89,7 +98,21 @@ fn refuses(
 }
 
 #[test]
-fn damaged_lines(rt: HostRuntime) -> Result<(), Fail> {
+fn damaged_openings(rt: HostRuntime) -> Result<(), Fail> {
+    for (before, damaged, line, reason) in [
+        ("", "dri 2", 1, Reason::Shape),
+        ("dri 1\n", "screen 4 4 00004", 2, Reason::Shape),
+        ("dri 1\n", "screen 0 4 000040", 2, Reason::Range),
+        ("dri 1\nscreen 4 4 000040\n", "heap 2", 3, Reason::Shape),
+        ("dri 1\nscreen 4 4 000040\n", "heap 2 384", 3, Reason::Range),
+    ] {
+        refuses(&rt, rt.alloc(), before, damaged, line, reason)?;
+    }
+    Ok(())
+}
+
+#[test]
+fn damaged_heads(rt: HostRuntime) -> Result<(), Fail> {
     for (damaged, reason) in [
         ("dri 1", Reason::Shape),
         (" window 1 0 0 4 4 101010 1 up", Reason::Shape),
@@ -109,24 +132,58 @@ fn damaged_lines(rt: HostRuntime) -> Result<(), Fail> {
         ("client 2 2", Reason::Unknown),
         ("clear 000000 70000", Reason::Shape),
         ("end", Reason::Shape),
+        ("done 1", Reason::Shape),
     ] {
         refuses(&rt, rt.alloc(), OPEN, damaged, 6, reason)?;
     }
-    for (damaged, reason) in [
-        ("texture 1 l8 27 19 00", Reason::Range),
-        ("texture 1 l8 1 1 0g", Reason::Shape),
-        ("texture 1 l8 257 1 00", Reason::Range),
-        ("set depth most", Reason::Shape),
-        ("set bind 65", Reason::Range),
-        ("set bind 1", Reason::Unknown),
-        ("set scissor 0 0 2049 0", Reason::Range),
-        ("clear 000000 65536", Reason::Range),
-        ("die 1", Reason::Shape),
-        ("swap\nend\nclient 1 2", Reason::Order),
+    Ok(())
+}
+
+#[test]
+fn damaged_blocks(rt: HostRuntime) -> Result<(), Fail> {
+    for (damaged, line, reason) in [
+        ("texture 1 l8 27 19 00", 7, Reason::Range),
+        ("texture 1 l8 1 1 0g", 7, Reason::Shape),
+        ("texture 1 l8 257 1 00", 7, Reason::Range),
+        ("set depth most", 7, Reason::Shape),
+        ("set bind 65", 7, Reason::Range),
+        ("set bind 1", 7, Reason::Unknown),
+        ("set scissor 0 0 2049 0", 7, Reason::Range),
+        ("clear 000000 65536", 7, Reason::Range),
+        ("triangle 0 0 0 ff0000ff 0 0", 7, Reason::Shape),
+        (
+            "triangle 0 0 65536 ff0000ff 0 0 64 0 0 ff0000ff 0 0 0 64 0 ff0000ff 0 0",
+            7,
+            Reason::Range,
+        ),
+        ("die 1", 7, Reason::Shape),
+        ("die\nswap", 8, Reason::Shape),
+        ("swap\nend\nclient 1 2", 9, Reason::Order),
+        ("end\ndone\nend", 9, Reason::Shape),
     ] {
-        let line = if reason == Reason::Order { 9 } else { 7 };
         refuses(&rt, rt.alloc(), BLOCK, damaged, line, reason)?;
     }
+    Ok(())
+}
+
+#[test]
+fn damaged_changes(rt: HostRuntime) -> Result<(), Fail> {
+    for (damaged, reason) in [
+        ("map 65", Reason::Range),
+        ("unmap 3", Reason::Unknown),
+        ("move 2 1025 0", Reason::Range),
+        ("move 2 0", Reason::Shape),
+        ("resize 2 0 1", Reason::Range),
+        ("raise 3", Reason::Unknown),
+        ("lower x", Reason::Shape),
+    ] {
+        refuses(&rt, rt.alloc(), CHANGES, damaged, 7, reason)?;
+    }
+    Ok(())
+}
+
+#[test]
+fn damaged_turns(rt: HostRuntime) -> Result<(), Fail> {
     for (damaged, line, reason) in [
         ("0", 8, Reason::Range),
         ("x01", 8, Reason::Shape),
@@ -135,6 +192,22 @@ fn damaged_lines(rt: HostRuntime) -> Result<(), Fail> {
     ] {
         refuses(&rt, rt.alloc(), TURNS, damaged, line, reason)?;
     }
+    Ok(())
+}
+
+#[test]
+fn one_change_too_many(rt: HostRuntime) -> Result<(), Fail> {
+    let mut text = Vec::new(rt.alloc());
+    text.extend_from_slice(CHANGES.as_bytes())?;
+    for _ in 0..4097 {
+        text.extend_from_slice(b"raise 2\n")?;
+    }
+    assert!(rt; text.len() <= 4_294_967_294);
+    let fault = SceneFault::Refused {
+        line: 4103,
+        reason: Reason::Limit,
+    };
+    assert_eq!(rt; read_scene(rt.alloc(), text.as_slice()).err(), Some(fault));
     Ok(())
 }
 

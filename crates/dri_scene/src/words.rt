@@ -1,9 +1,10 @@
 //! The words of a printed line. A line is begun with its first word, further words are put behind a space each, and it is
 //! ended with a newline.
 
-ghost use Rattle.std.specs.Prelude.{◌≡◌, ◌++◌, ◌∷◌, [], ◌<◌, ◌≤◌, OnOk, decimal};
+ghost use Rattle.std.specs.Prelude.{◌≡◌, ◌++◌, ◌∷◌, [], ◌<◌, ◌≤◌, All, OnOk, decimal};
 ghost use Rattle.std.specs.Fmt.{signed_decimal};
 ghost use Rattle.std.specs.List.{flat_map};
+ghost use Rattle.dri_scene.specs.Stored.{IsColour, IsColourAlpha};
 ghost use Rattle.dri_scene.specs.Texts.{Adds, colour_alpha_word, colour_word, digit, hex};
 
 use dri_base::{Bytes, Rgb, Rgba};
@@ -42,7 +43,8 @@ pub fn push_digits(text: &mut Vec<u8>, number: u32) -> Result<(), AllocError>
 
 /// Puts a space and a number of sixteen bits.
 pub fn push_small(text: &mut Vec<u8>, number: u16) -> Result<(), AllocError>
-    ensures { OnOk result (Adds text.old.items (32 ∷ decimal number) text.new.items) }
+    ensures text { OnOk result (Adds text.old.items (32 ∷ decimal number) text.new.items) }
+    ensures stored { OnOk result (number < 65536) }
 {
     let mut digits = Buffer::new();
     push_word(text, digits.format(number).as_bytes())
@@ -88,7 +90,8 @@ fn push_hex(text: &mut Vec<u8>, byte: u8) -> Result<(), AllocError>
 
 /// Puts a space and a colour.
 pub fn push_colour(text: &mut Vec<u8>, colour: Rgb) -> Result<(), AllocError>
-    ensures { OnOk result (Adds text.old.items (32 ∷ colour_word colour) text.new.items) }
+    ensures text { OnOk result (Adds text.old.items (32 ∷ colour_word colour) text.new.items) }
+    ensures stored { OnOk result (IsColour colour) }
 {
     let [r1, r2] = hex(colour.r);
     let [g1, g2] = hex(colour.g);
@@ -98,7 +101,8 @@ pub fn push_colour(text: &mut Vec<u8>, colour: Rgb) -> Result<(), AllocError>
 
 /// Puts a space and a colour with its alpha.
 pub fn push_colour_alpha(text: &mut Vec<u8>, colour: Rgba) -> Result<(), AllocError>
-    ensures { OnOk result (Adds text.old.items (32 ∷ colour_alpha_word colour) text.new.items) }
+    ensures text { OnOk result (Adds text.old.items (32 ∷ colour_alpha_word colour) text.new.items) }
+    ensures stored { OnOk result (IsColourAlpha colour) }
 {
     let [r1, r2] = hex(colour.r);
     let [g1, g2] = hex(colour.g);
@@ -109,7 +113,8 @@ pub fn push_colour_alpha(text: &mut Vec<u8>, colour: Rgba) -> Result<(), AllocEr
 
 /// Puts a space and an image, two digits for each byte.
 pub fn push_image(text: &mut Vec<u8>, image: &Bytes) -> Result<(), AllocError>
-    ensures { OnOk result (Adds text.old.items (32 ∷ flat_map hex image.now) text.new.items) }
+    ensures text { OnOk result (Adds text.old.items (32 ∷ flat_map hex image.now) text.new.items) }
+    ensures stored { OnOk result (All (λ b. b < 256) image.now) }
 {
     text.extend_from_slice(b" ")?;
     for byte in image.as_slice() {

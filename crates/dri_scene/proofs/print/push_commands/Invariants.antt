@@ -1,8 +1,9 @@
 -- The lines so far.
-use Rattle.std.proofs.Common.{take}
+use Rattle.std.proofs.Common.{All, take}
 use Rattle.std.specs.List.{flat_map}
 use Rattle.dri_scene.specs.Texts.{Adds, line_bytes, command_words}
+use Rattle.dri_scene.specs.Stored.{IsStoredCommand}
 use Rattle.dri_scene.proofs.print.push_commands.Given as goal
 
 abbrev pub invariant-loop-command : goal.invariant-loop-command
-invariant-loop-command l = Adds l.fn.text.items (flat_map (λ x. line_bytes (command_words x)) (take l.command-index l.command-items)) l.text.items
+invariant-loop-command l = (Adds l.fn.text.items (flat_map (λ x. line_bytes (command_words x)) (take l.command-index l.command-items)) l.text.items) × All IsStoredCommand (take l.command-index l.command-items)

@@ -11,4 +11,4 @@ returns c =
     let y_fits : SFits w32 c.args.window.now.y = search rules in
     let x = simp (to_z-of_z, x_fits) at c.in_ok-push_signed.ensures in
     let y = simp (to_z-of_z, y_fits) at c.in_ok-push_signed-2.ensures in
-    on_ok c.end_line.result (λ e. let all = joined c.in_ok-push_bytes.ensures (joined c.in_ok-push_number.ensures (joined x (joined y (joined c.in_ok-push_number-2.ensures (joined c.in_ok-push_number-3.ensures (joined c.in_ok-push_colour.ensures (joined c.in_ok-push_number-4.ensures (joined c.in_ok-push_mapped.ensures e)))))))) in all) c.end_line.ensures
+    record { text = on_ok c.end_line.result (λ e. let all = joined c.in_ok-push_bytes.ensures (joined c.in_ok-push_number.ensures (joined x (joined y (joined c.in_ok-push_number-2.ensures (joined c.in_ok-push_number-3.ensures (joined c.in_ok-push_colour.ensures.text (joined c.in_ok-push_number-4.ensures (joined c.in_ok-push_mapped.ensures e)))))))) in all) c.end_line.ensures; stored = on_ok c.end_line.result (λ e. c.in_ok-push_colour.ensures.stored) c.end_line.ensures }

@@ -12,4 +12,4 @@ returns c =
     let y_fits : SFits w32 c.args.vertex.now.y = search rules in
     let x = simp (to_z-of_z, x_fits) at c.in_ok-push_signed.ensures in
     let y = simp (to_z-of_z, y_fits) at c.in_ok-push_signed-2.ensures in
-    on_ok c.push_small-3.result (λ e. λ more. let all = joined x (joined y (joined c.in_ok-push_small.ensures (joined c.in_ok-push_colour_alpha.ensures (joined c.in_ok-push_small-2.ensures (joined e (behind c.push_small-3.new.text.items (words_bytes more))))))) in all) c.push_small-3.ensures
+    record { text = on_ok c.push_small-3.result (λ e. λ more. let all = joined x (joined y (joined c.in_ok-push_small.ensures.text (joined c.in_ok-push_colour_alpha.ensures.text (joined c.in_ok-push_small-2.ensures.text (joined e (behind c.push_small-3.new.text.items (words_bytes more))))))) in all) c.push_small-3.ensures.text; stored = on_ok c.push_small-3.result (λ t. record { z = c.in_ok-push_small.ensures.stored; colour = c.in_ok-push_colour_alpha.ensures.stored; s = c.in_ok-push_small-2.ensures.stored; t = t }) c.push_small-3.ensures.stored }
