@@ -74,11 +74,11 @@ goes_on (c ∷ cs) m n some small is = told (λ k. goes_on cs k n) (is_ascii_dig
   told : ((k : ℕ) → 0 < k → k < 10000000000 → digits_from k cs ≡ Some n → (n < 10000000000) × (decimal k ++ cs ≡ decimal n)) → (b : Bool) → (is_ascii_digit c && nat_lt m 1000000000) ≡ b → (n < 10000000000) × (decimal m ++ c ∷ cs ≡ decimal n)
   told further false test = absurd (none_some (rw test at is))
   told further true test =
-    let digit = digit_told c m test in
-    let d = digit.value in
-    let value : c - 48 ≡ d = let e = digit.is in omega (arith, e) in
-    let later = further (m * 10 + d) (omega (arith, some)) (let s = digit.small in let b = digit.below in omega (arith, s, b)) (subst (λ k. digits_from (m * 10 + k) cs ≡ Some n) value (rw test at is)) in
-    (later.0, ap (λ k. decimal m ++ k ∷ cs) digit.is ∙ sym (append_assoc (decimal m) ((48 + d) ∷ []) cs) ∙ ap (λ ds. ds ++ cs) (decimal_more m d some digit.small digit.below) ∙ later.1)
+      let digit = digit_told c m test in
+      let d = digit.value in
+      let value : c - 48 ≡ d = let e = digit.is in omega (arith, e) in
+      let later = further (m * 10 + d) (omega (arith, some)) (let s = digit.small in let b = digit.below in omega (arith, s, b)) (subst (λ k. digits_from (m * 10 + k) cs ≡ Some n) value (rw test at is)) in
+      (later.0, ap (λ k. decimal m ++ k ∷ cs) digit.is ∙ sym (append_assoc (decimal m) ((48 + d) ∷ []) cs) ∙ ap (λ ds. ds ++ cs) (decimal_more m d some digit.small digit.below) ∙ later.1)
 
 -- a word whose first digit isn't 0 spells a number in its digits
 first_digit : (c : ℕ) (cs : List ℕ) (n : ℕ) → (c ≡ 48 → ⊥) → digits_from 0 (c ∷ cs) ≡ Some n → (n < 10000000000) × (c ∷ cs ≡ decimal n)
@@ -86,16 +86,16 @@ first_digit c cs n other is = told (is_ascii_digit c && nat_lt 0 1000000000) ref
   told : (b : Bool) → (is_ascii_digit c && nat_lt 0 1000000000) ≡ b → (n < 10000000000) × (c ∷ cs ≡ decimal n)
   told false test = absurd (none_some (rw test at is))
   told true test =
-    let digit = digit_told c 0 test in
-    let d = digit.value in
-    let value : 0 + (c - 48) ≡ d = let e = digit.is in omega (arith, e) in
-    let some : 0 < d = above d digit.is in
-    let later = goes_on cs d n some (let s = digit.small in omega (arith, s)) (subst (λ k. digits_from k cs ≡ Some n) value (rw test at is)) in
-    (later.0, ap (λ k. k ∷ cs) digit.is ∙ ap (λ ds. ds ++ cs) (sym (decimal_digit d digit.small)) ∙ later.1)
-   where
-    above : (d : ℕ) → c ≡ 48 + d → 0 < d
-    above zero is = absurd (other (is ∙ omega arith))
-    above (suc d) is = omega arith
+      let digit = digit_told c 0 test in
+      let d = digit.value in
+      let value : 0 + (c - 48) ≡ d = let e = digit.is in omega (arith, e) in
+      let some : 0 < d = above d digit.is in
+      let later = goes_on cs d n some (let s = digit.small in omega (arith, s)) (subst (λ k. digits_from k cs ≡ Some n) value (rw test at is)) in
+      (later.0, ap (λ k. k ∷ cs) digit.is ∙ ap (λ ds. ds ++ cs) (sym (decimal_digit d digit.small)) ∙ later.1)
+    where
+      above : (d : ℕ) → c ≡ 48 + d → 0 < d
+      above zero is = absurd (other (is ∙ omega arith))
+      above (suc d) is = omega arith
 
 -- a word that spells a number is the number in digits
 spelled : (word : List ℕ) (n : ℕ) → number_of word ≡ Some n → (n < 10000000000) × (word ≡ decimal n)
