@@ -6,7 +6,9 @@ ghost use Rattle.dri_sarea.specs.Layouts.{bytes_in, size, pieces, zero_fields, d
 ghost use Rattle.dri_sarea.specs.Images.{number_at, first_bad};
 
 use crate::layout::{
-    DRAWABLES, ENTRIES, FRAME, Field, REGION_COUNT, REST, Width, drawable, entry, numbers, zero,
+    DRAWABLE_COUNT, DRAWABLE_LOCK, DRAWABLE_LOCK_SIZE, DRAWABLE_SIZE, DRAWABLES, ENTRIES,
+    ENTRY_COUNT, ENTRY_SIZE, FRAME, Field, PADDING, PADDING_SIZE, REGION_COUNT, REST, REST_SIZE,
+    Width, drawable, entry, numbers, zero,
 };
 use byteorder::{ByteOrder, LittleEndian};
 
@@ -58,8 +60,8 @@ fn bad_drawable(bytes: &[u8]) -> Option<u32>
     requires { length bytes.now ≡ 8192 }
     ensures { result ≡ first_bad bytes.now 128 (pieces (λ i. drawable_fields) 256) }
 {
-    for i in 0..256 {
-        if let Some(bad) = bad_field(bytes, DRAWABLES + 8 * i, &drawable()) {
+    for i in 0..DRAWABLE_COUNT {
+        if let Some(bad) = bad_field(bytes, DRAWABLES + DRAWABLE_SIZE * i, &drawable()) {
             return Some(bad);
         }
     }
@@ -72,11 +74,11 @@ fn bad_in_entry(bytes: &[u8], count: u32, i: usize) -> Option<u32>
     requires i { i < 65 }
     ensures { result ≡ first_bad bytes.now (2216 + 8 * i) (entry_fields count i) }
 {
-    let at = ENTRIES + 8 * i;
+    let at = ENTRIES + ENTRY_SIZE * i;
     if i <= count as usize {
         bad_field(bytes, at, &entry(count))
     } else {
-        bad_zero(bytes, at, 8)
+        bad_zero(bytes, at, ENTRY_SIZE)
     }
 }
 
@@ -85,7 +87,7 @@ fn bad_entry(bytes: &[u8], count: u32) -> Option<u32>
     requires { length bytes.now ≡ 8192 }
     ensures { result ≡ first_bad bytes.now 2216 (pieces (entry_fields count) 65) }
 {
-    for i in 0..65 {
+    for i in 0..ENTRY_COUNT {
         if let Some(bad) = bad_in_entry(bytes, count, i) {
             return Some(bad);
         }
@@ -98,10 +100,10 @@ pub fn first_bad(bytes: &[u8]) -> Option<u32>
     requires { length bytes.now ≡ 8192 }
     ensures { result ≡ first_bad bytes.now 0 (layout (number_at bytes.now count_offset 4)) }
 {
-    if let Some(bad) = bad_zero(bytes, 4, 60) {
+    if let Some(bad) = bad_zero(bytes, PADDING, PADDING_SIZE) {
         return Some(bad);
     }
-    if let Some(bad) = bad_zero(bytes, 64, 64) {
+    if let Some(bad) = bad_zero(bytes, DRAWABLE_LOCK, DRAWABLE_LOCK_SIZE) {
         return Some(bad);
     }
     if let Some(bad) = bad_drawable(bytes) {
@@ -114,5 +116,5 @@ pub fn first_bad(bytes: &[u8]) -> Option<u32>
     if let Some(bad) = bad_entry(bytes, count) {
         return Some(bad);
     }
-    bad_zero(bytes, REST, 5456)
+    bad_zero(bytes, REST, REST_SIZE)
 }

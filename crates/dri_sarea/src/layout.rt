@@ -7,35 +7,62 @@ ghost use Rattle.dri_sarea.specs.declared.layout.Range.TheVariants.{Any, Within,
 /// How many bytes an image has.
 pub const LENGTH: usize = 8192;
 
+/// Where the padding after the lock word begins.
+pub const PADDING: usize = 4;
+
+/// How many bytes the padding has.
+pub const PADDING_SIZE: usize = 60;
+
+/// Where the drawable lock begins.
+pub const DRAWABLE_LOCK: usize = PADDING + PADDING_SIZE;
+
+/// How many bytes the drawable lock has.
+pub const DRAWABLE_LOCK_SIZE: usize = 64;
+
 /// Where the drawables begin.
-pub const DRAWABLES: usize = 128;
+pub const DRAWABLES: usize = DRAWABLE_LOCK + DRAWABLE_LOCK_SIZE;
+
+/// How many drawables there are.
+pub const DRAWABLE_COUNT: usize = 256;
+
+/// How many bytes a drawable has.
+pub const DRAWABLE_SIZE: usize = 8;
 
 /// Where the frame begins, with which the numbers begin.
-pub const FRAME: usize = 2176;
+pub const FRAME: usize = DRAWABLES + DRAWABLE_COUNT * DRAWABLE_SIZE;
 
 /// Where the frame's width stands.
-pub const WIDTH: usize = 2184;
+pub const WIDTH: usize = FRAME + 8;
 
 /// Where the frame's height stands.
-pub const HEIGHT: usize = 2188;
+pub const HEIGHT: usize = FRAME + 12;
 
 /// Where the owner stands.
-pub const OWNER: usize = 2200;
+pub const OWNER: usize = FRAME + 24;
 
 /// Where the global age stands.
-pub const AGE: usize = 2204;
+pub const AGE: usize = FRAME + 28;
 
 /// Where the number of regions stands.
-pub const REGION_COUNT: usize = 2208;
+pub const REGION_COUNT: usize = FRAME + 32;
 
 /// Where the size of a region stands.
-pub const REGION_SIZE: usize = 2212;
+pub const REGION_SIZE: usize = FRAME + 36;
 
 /// Where the entries of the list of regions begin.
-pub const ENTRIES: usize = 2216;
+pub const ENTRIES: usize = FRAME + 40;
+
+/// How many entries there are.
+pub const ENTRY_COUNT: usize = 65;
+
+/// How many bytes an entry has.
+pub const ENTRY_SIZE: usize = 8;
 
 /// Where the rest begins.
-pub const REST: usize = 2736;
+pub const REST: usize = ENTRIES + ENTRY_COUNT * ENTRY_SIZE;
+
+/// How many bytes the rest has.
+pub const REST_SIZE: usize = LENGTH - REST;
 
 /// How many bytes a field has: one, or the four of a number.
 #[derive(Clone, Copy, Debug, PartialEq, Eq)]

@@ -7,7 +7,9 @@ ghost use Rattle.dri_sarea.specs.Images.{first_bad, numbers_at};
 
 use crate::check::number_at;
 use crate::drawable::Drawable;
-use crate::layout::{DRAWABLES, ENTRIES, Width};
+use crate::layout::{
+    DRAWABLE_COUNT, DRAWABLE_SIZE, DRAWABLES, ENTRIES, ENTRY_COUNT, ENTRY_SIZE, Width,
+};
 use dri_base::{OutOfMemory, TexRegion};
 use std::alloc::Global;
 
@@ -25,9 +27,9 @@ pub fn read_drawables(alloc: Global, bytes: &[u8]) -> Result<Vec<Drawable>, OutO
     ensures values { IfOk result (λ list. numbers_at bytes.now 128 (pieces (λ i. drawable_fields) 256) ≡ pieces (λ i. drawable_values (get_or list.items i no_drawable)) 256) }
     ensures size { IfOk result (λ list. length list.items ≡ 256) }
 {
-    let mut list = Vec::with_capacity(alloc, 256)?;
-    for i in 0..256 {
-        let at = DRAWABLES + 8 * i;
+    let mut list = Vec::with_capacity(alloc, DRAWABLE_COUNT)?;
+    for i in 0..DRAWABLE_COUNT {
+        let at = DRAWABLES + DRAWABLE_SIZE * i;
         list.push(Drawable {
             stamp: number_at(bytes, at, Width::Number),
             flags: number_at(bytes, at + 4, Width::Number),
@@ -47,7 +49,7 @@ fn read_entry(bytes: &[u8], count: u32, i: usize) -> TexRegion
     if (count as usize) < i {
         return NO_REGION;
     }
-    let at = ENTRIES + 8 * i;
+    let at = ENTRIES + ENTRY_SIZE * i;
     TexRegion {
         next: bytes[at],
         prev: bytes[at + 1],
@@ -64,8 +66,8 @@ pub fn read_entries(alloc: Global, bytes: &[u8], count: u32) -> Result<Vec<TexRe
     ensures size { IfOk result (λ list. length list.items ≡ 65) }
     ensures unused { IfOk result (λ list. (i : ℕ) → count < i → get_or list.items i no_region ≡ no_region) }
 {
-    let mut list = Vec::with_capacity(alloc, 65)?;
-    for i in 0..65 {
+    let mut list = Vec::with_capacity(alloc, ENTRY_COUNT)?;
+    for i in 0..ENTRY_COUNT {
         list.push(read_entry(bytes, count, i))?;
     }
     Ok(list)

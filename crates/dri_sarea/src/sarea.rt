@@ -14,7 +14,8 @@ use crate::check::{first_bad, number_at};
 use crate::drawable::Drawable;
 use crate::fault::{BadSarea, SareaFault};
 use crate::layout::{
-    AGE, HEIGHT, LENGTH, OWNER, REGION_COUNT, REGION_SIZE, WIDTH, Width, numbers, word,
+    AGE, DRAWABLE_LOCK_SIZE, ENTRY_COUNT, HEIGHT, LENGTH, OWNER, PADDING_SIZE, REGION_COUNT,
+    REGION_SIZE, REST_SIZE, WIDTH, Width, numbers, word,
 };
 use crate::read::{NO_REGION, read_drawables, read_entries};
 use crate::write::{put_drawables, put_entries, put_fields, put_zeros};
@@ -104,7 +105,7 @@ fn all_entries(alloc: Global, regions: &Regions) -> Result<Vec<TexRegion>, OutOf
     ensures entries { IfOk result (λ list. list.items ≡ all_entries regions.now.count (heap_of regions.now)) }
     ensures small { IfOk result (λ list. (i : ℕ) → (get_or list.items i no_region).age < 4294967296) }
 {
-    let mut list = vec![in alloc; NO_REGION; 65]?;
+    let mut list = vec![in alloc; NO_REGION; ENTRY_COUNT]?;
     for i in 0..regions.count() + 1 {
         list[i as usize] = entry(regions, i);
     }
@@ -156,7 +157,8 @@ impl Sarea {
         requires high { (1 ≤ height) × (height ≤ 1024) }
         requires owner { owner ≤ 33 }
         requires sized { IsRegionSize region_size }
-        ensures { IfOk result (λ area. area ≡ record { word = word; drawables = drawables.now; width = width; height = height; owner = owner; age = age; region_count = regions.now.count; region_size = region_size; regions = all_entries regions.now.count (heap_of regions.now) }) }
+        ensures area { IfOk result IsArea }
+        ensures values { IfOk result (λ area. area ≡ record { word = word; drawables = drawables.now; width = width; height = height; owner = owner; age = age; region_count = regions.now.count; region_size = region_size; regions = all_entries regions.now.count (heap_of regions.now) }) }
     {
         let drawables = copied(alloc, drawables)?;
         let region_count = regions.count();
@@ -246,8 +248,8 @@ impl Sarea {
     {
         let mut out = Vec::with_capacity(alloc, LENGTH)?;
         put_fields(&mut out, &[word()], &[self.word])?;
-        put_zeros(&mut out, 60)?;
-        put_zeros(&mut out, 64)?;
+        put_zeros(&mut out, PADDING_SIZE)?;
+        put_zeros(&mut out, DRAWABLE_LOCK_SIZE)?;
         put_drawables(&mut out, self.drawables.as_slice())?;
         put_fields(
             &mut out,
@@ -266,15 +268,18 @@ impl Sarea {
             ],
         )?;
         put_entries(&mut out, self.region_count, self.regions.as_slice())?;
-        put_zeros(&mut out, 5456)?;
+        put_zeros(&mut out, REST_SIZE)?;
         Ok(out)
     }
 
-    /// The image of 8,192 bytes. `from_bytes` finds nothing wrong with it.
+    /// The image of 8,192 bytes, which no other area has. `from_bytes` finds nothing wrong with it, and reads this area
+    /// back.
     pub fn to_bytes(&self, alloc: Global) -> Result<Bytes, OutOfMemory>
         ensures image { IfOk result (λ bytes. bytes ≡ area_bytes self.now) }
         ensures size { IfOk result (λ bytes. length bytes ≡ 8192) }
         ensures good { IfOk result (λ bytes. bad_at bytes ≡ None) }
+        ensures area { OnOk result (IsArea self.now) }
+        ensures only { IfOk result (λ bytes. (other : Area) → IsArea other → bytes ≡ area_bytes other → other ≡ self.now) }
     {
         let bytes = self.image(alloc)?;
         Ok(Bytes::from_vec(bytes))

@@ -65,6 +65,14 @@ fn bad_at(rt: &impl Abort, alloc: Global, at: usize, byte: u8) -> Option<u32> {
     }
 }
 
+/// Expects these bytes of the image from a place on.
+fn expect_part(rt: &impl Abort, image: &[u8], start: usize, part: &[u8]) {
+    assert!(rt; start <= 4096 && part.len() <= 4096);
+    assert!(rt; start + part.len() <= image.len());
+    let here = &image[start..start + part.len()];
+    assert!(rt; here == part);
+}
+
 #[test]
 fn worked_image(rt: HostRuntime) {
     rows_follow_on();
@@ -91,11 +99,7 @@ fn worked_image(rt: HostRuntime) {
     ];
     assert_eq!(rt; image.len(), 8192);
     for (start, part) in parts {
-        for (i, byte) in part.iter().enumerate() {
-            assert!(rt; start < 4096 && i < 4096);
-            assert!(rt; start + i < image.len());
-            assert_eq!(rt; *image.get(start + i), *byte);
-        }
+        expect_part(&rt, image.as_slice(), start, part);
     }
 }
 

@@ -7,7 +7,7 @@ ghost use Rattle.dri_sarea.specs.Areas.{no_drawable, no_region};
 ghost use Rattle.dri_sarea.specs.Images.{written, are_held};
 
 use crate::drawable::Drawable;
-use crate::layout::{Field, Width, drawable, entry, zero};
+use crate::layout::{ENTRY_SIZE, Field, Width, drawable, entry, zero};
 use byteorder::{ByteOrder, LittleEndian};
 use dri_base::{OutOfMemory, TexRegion};
 
@@ -65,7 +65,7 @@ fn put_entry(out: &mut Vec<u8>, count: u32, i: usize, region: TexRegion) -> Resu
     ensures { OnOk result (out.new.items ≡ out.old.items ++ written (entry_fields count i) (entry_values count i region)) }
 {
     if (count as usize) < i {
-        return put_zeros(out, 8);
+        return put_zeros(out, ENTRY_SIZE);
     }
     put_fields(
         out,
