@@ -9,7 +9,7 @@ ghost use Rattle.dri_base.specs.Ranges.{InRange, IsPlace, TriangleInRange};
 ghost use Rattle.dri_base.specs.States.{default_state};
 ghost use Rattle.dri_model.specs.CommandWords.{IsTriangle, triangle_words, Buffer as IsBuffer};
 ghost use Rattle.dri_model.specs.Heaps.{uploaded};
-ghost use Rattle.dri_model.specs.Words.{Spelled, registers_for};
+ghost use Rattle.dri_model.specs.Words.{registers_for};
 ghost use Rattle.dri_plane.specs.Grids.{area};
 ghost use Rattle.dri_card.specs.Contents.{Holds, IsOnCard, IsOpening, KeepSides, Shows, memory_of};
 ghost use Rattle.dri_card.specs.Drawing.{IsDispatchFault, OnlyDrawn, OnlyShown, after_triangle, after_triangles, cleared, painted, swapped};
@@ -77,9 +77,12 @@ impl Card {
     }
 
     /// Loads registers: exactly where the words spell some and the image that is bound then lies in the texture memory.
-    /// The groups that the words spell become theirs, and nothing else changes. Otherwise nothing changes.
+    /// The groups that the words spell become theirs, and nothing else changes. The words are tested first: `BadWord`
+    /// comes exactly where they spell no registers, and names the first word that can't stand there. `Outside` comes
+    /// exactly where they spell some and the image that is bound then passes the texture memory, and is a `Base` with the
+    /// image's first byte and how many it has. After a refusal nothing has changed.
     pub fn load_registers(&mut self, words: &[u32]) -> Result<(), LoadFault>
-        ensures ok { OnOk result ((s : Spelled words.now) × (self.new ≡ record self.old { registers = registers_after s self.old })) }
+        ensures ok { OnOk result ((able : CanLoad words.now self.old) × (self.new ≡ record self.old { registers = registers_after able.spelled self.old })) }
         ensures can { (able : CanLoad words.now self.old) → IsOk result × (self.new ≡ record self.old { registers = registers_after able.spelled self.old }) }
         ensures fault { IfErr result (IsLoadFault words.now self.old) }
         ensures err { OnErr result (self.new ≡ self.old) }
@@ -91,7 +94,9 @@ impl Card {
         Ok(())
     }
 
-    /// Sets the clip, exactly where the rectangle lies on the card. Nothing else changes.
+    /// Sets the clip, exactly where the rectangle lies on the card: no side is before the one across from it, and none
+    /// is beyond the screen. Nothing else changes. Otherwise it is refused as a `Clip` with that rectangle, and nothing
+    /// changes.
     pub fn set_clip(&mut self, rect: ClipRect) -> Result<(), OutsideCard>
         ensures on_card { IsOk result ↔ IsOnCard rect self.old }
         ensures ok { OnOk result (self.new ≡ record self.old { clip = rect }) }
@@ -158,7 +163,8 @@ impl Card {
     }
 
     /// Writes a colour and a depth into each pixel of a rectangle of back and depth, exactly where it lies on the card.
-    /// Nothing else changes. It takes two steps a pixel.
+    /// Nothing else changes. It takes two steps a pixel. The rectangle is tested first: one that doesn't lie on the card
+    /// is refused as a `Clip` with it, before any step, and nothing changes.
     pub fn clear<L: Ledger>(
         &mut self,
         rect: ClipRect,
@@ -180,7 +186,8 @@ impl Card {
     }
 
     /// Copies each pixel of a rectangle from back to front, exactly where it lies on the card. Nothing else changes. It
-    /// takes two steps a pixel.
+    /// takes two steps a pixel. The rectangle is tested first: one that doesn't lie on the card is refused as a `Clip`
+    /// with it, before any step, and nothing changes.
     pub fn swap<L: Ledger>(
         &mut self,
         rect: ClipRect,
@@ -200,7 +207,8 @@ impl Card {
     }
 
     /// Writes bytes into the texture memory from the base on, exactly where they end within it. Nothing else changes.
-    /// There are at most 4,294,967,295 bytes.
+    /// There are at most 4,294,967,295 bytes. Their end is tested first: bytes that pass the memory are refused as a
+    /// `Base` with the base and how many they are, and nothing changes.
     pub fn upload(&mut self, base: u32, bytes: &[u8]) -> Result<(), OutsideCard>
         requires { length bytes.now ≤ 4294967295 }
         ensures within { IsOk result ↔ (base + length bytes.now ≤ length self.old.memory) }
@@ -222,7 +230,8 @@ impl Card {
     }
 
     /// Writes a colour into each pixel of a rectangle of front, exactly where it lies on the card. Nothing else changes.
-    /// It takes a step a pixel.
+    /// It takes a step a pixel. The rectangle is tested first: one that doesn't lie on the card is refused as a `Clip`
+    /// with it, before any step, and nothing changes.
     pub fn paint<L: Ledger>(
         &mut self,
         rect: ClipRect,

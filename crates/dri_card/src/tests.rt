@@ -134,6 +134,47 @@ fn window_beyond_the_left_edge(rt: HostRuntime) -> Result<(), Fail> {
     beyond_the_left_edge::<Brand, _>(&rt, rt.alloc(), Blank::new(1))
 }
 
+/// Makes rectangles of back black, as deep as can be.
+fn clear_all<L: Ledger, R: Abort>(
+    rt: &R,
+    card: &mut Card,
+    clips: &[ClipRect],
+    steps: &mut Steps<L>,
+) {
+    for clip in clips {
+        assert!(rt; card.clear(*clip, grey(0), 65_535, steps).is_ok());
+    }
+}
+
+/// Draws a buffer in each of the rectangles, by the blending of that number.
+fn blend_all<L: Ledger, R: Abort>(
+    rt: &R,
+    card: &mut Card,
+    blending: u32,
+    buffer: &Buffer,
+    clips: &[ClipRect],
+    steps: &mut Steps<L>,
+) {
+    assert!(rt; card.load_registers(&[0x5200_0002, blending]).is_ok());
+    for clip in clips {
+        assert!(rt; card.set_clip(*clip).is_ok());
+        let origin = Point { x: 0, y: 0 };
+        assert!(rt; card.dispatch(buffer, origin, steps).is_ok());
+    }
+}
+
+/// Shows rectangles of back.
+fn swap_all<L: Ledger, R: Abort>(
+    rt: &R,
+    card: &mut Card,
+    clips: &[ClipRect],
+    steps: &mut Steps<L>,
+) {
+    for clip in clips {
+        assert!(rt; card.swap(*clip, steps).is_ok());
+    }
+}
+
 fn blends<L: Ledger, R: Abort>(rt: &R, alloc: Global, blank: Blank) -> Result<(), Fail>
     requires name { blank.name ≡ L.name }
     requires parts { blank.parts ≡ L.parts }
@@ -143,22 +184,12 @@ fn blends<L: Ledger, R: Abort>(rt: &R, alloc: Global, blank: Blank) -> Result<()
     let windows = [window(2, 1, 1, grey(0x22)), window(1, 0, 3, grey(0x11))];
     let mut card = card(rt, alloc, 3, &windows)?;
     let clips = [row(0, 1), row(2, 3)];
-    let origin = Point { x: 0, y: 0 };
-    for clip in clips {
-        assert!(rt; card.clear(clip, grey(0), 65_535, &mut steps).is_ok());
-    }
+    clear_all(rt, &mut card, &clips, &mut steps);
     let added = buffer(rt, &triangle(128, 128, 128, 255));
+    blend_all(rt, &mut card, 2, &added, &clips, &mut steps);
     let mixed = buffer(rt, &triangle(255, 255, 255, 128));
-    for (words, buffer) in [([0x5200_0002, 2], added), ([0x5200_0002, 1], mixed)] {
-        assert!(rt; card.load_registers(&words).is_ok());
-        for clip in clips {
-            assert!(rt; card.set_clip(clip).is_ok());
-            assert!(rt; card.dispatch(&buffer, origin, &mut steps).is_ok());
-        }
-    }
-    for clip in clips {
-        assert!(rt; card.swap(clip, &mut steps).is_ok());
-    }
+    blend_all(rt, &mut card, 1, &mixed, &clips, &mut steps);
+    swap_all(rt, &mut card, &clips, &mut steps);
     assert!(rt; card.front().pixels() == [grey(0xc0), grey(0x22), grey(0xc0)].as_slice());
     Ok(())
 }
