@@ -43,4 +43,4 @@ returns c =
       regions = all_entries h.regions.count (heap_of h.regions);
     } in
     subst (λ (v : SharedState). IfOk c.new.result (λ (a : Area). a ≡ area_of v.scene (world_of v) c.args.word)) c.self.view_is (if_ok c.new.result area (area_of s w c.args.word)
-    (area_is s t h w c.args.word c.age.result c.as_slice-2.result.now c.deref-scene.ensures (c.as_slice-2.ensures.value ∙ c.in_ok-drawables.ensures) c.age.ensures.age c.self.invariant.world) c.new.ensures)
+    (area_is s t h w c.args.word c.age.result c.as_slice-2.result.now c.deref-scene.ensures (c.as_slice-2.ensures.value ∙ c.in_ok-drawables.ensures) c.age.ensures.age c.self.invariant.world) c.new.ensures.values)
