@@ -89,7 +89,7 @@ Says form answers.Done given left picture notes = RanText form answers.Done give
 Says form answers.WriteFault given left picture notes = RanText form answers.WriteFault given left picture notes
 Says form (answers.Refused line reason) given left picture notes = IsRefused line reason given left picture notes
 Says form answers.TooLong given left picture notes = (most < length given) × GainsNothing picture × GainsNothing notes
-Says form answers.ReadFault given left picture notes = GainsNothing picture × GainsNothing notes
+Says form answers.ReadFault given left picture notes = (length given ≤ most) × GainsNothing picture × GainsNothing notes
 Says form answers.OutOfMemory given left picture notes = GainsNothing picture × GainsNothing notes
 Says form answers.Usage given left picture notes = ⊥
 Says form (answers.NotARun entry) given left picture notes = ⊥
@@ -112,6 +112,7 @@ pub record Answers (form : Option Form) (status : Status) (given : List ℕ) (le
   pub count_then : ℕ
   pub said : SaysTo form status given left picture (record notes { holds = held_then; now = count_then })
   pub told : Tells status (record notes { held = held_then; before = count_then })
+  pub earlier : notes.before ≤ count_then
   pub later : count_then ≤ notes.now
 
 -- the status for a text that has no scene

@@ -1,6 +1,6 @@
 //! The top call: words, reading, length, text, run, writing, in this order.
 
-ghost use Rattle.std.specs.Prelude.{◌≡◌, ◌≢◌, ◌⊎◌, ◌↔◌, ℕ, List, None, Some};
+ghost use Rattle.std.specs.Prelude.{◌≡◌, ◌≢◌, ◌≤◌, ◌⊎◌, ◌↔◌, ℕ, List, None, Some};
 ghost use Rattle.std.specs.Io.KnownBytes.{Consumes};
 ghost use Rattle.std.specs.declared.option.Option.{Option};
 ghost use Rattle.dri_io.specs.Causes.{Rose};
@@ -43,6 +43,7 @@ fn run<P: Sink, N: Sink>(
     ensures ran { Runs form result scene
         (record { held = P.held picture.old; holds = P.held picture.new; before = P.faults picture.old; now = P.faults picture.new })
         (record { held = N.held notes.old; holds = N.held notes.new; before = N.faults notes.old; now = N.faults notes.new }) }
+    ensures later { N.faults notes.old ≤ N.faults notes.new }
     ensures unwritten { result ≡ Status.OutOfMemory → (picture.new ≡ picture.old) × (notes.new ≡ notes.old) }
 {
     match output_of(alloc, form, scene) {
@@ -63,6 +64,7 @@ fn obey<S: Source, P: Sink, N: Sink>(
         × Says form result given (S.left input.new)
         (record { held = P.held picture.old; holds = P.held picture.new; before = P.faults picture.old; now = P.faults picture.new })
         (record { held = N.held notes.old; holds = N.held notes.new; before = N.faults notes.old; now = N.faults notes.new }) }
+    ensures later { N.faults notes.old ≤ N.faults notes.new }
     ensures read_fault { result ≡ Status.ReadFault → Rose (S.faults input.old) (S.faults input.new) }
     ensures unwritten { result ≢ Status.Done → result ≢ Status.WriteFault → (picture.new ≡ picture.old) × (notes.new ≡ notes.old) }
     ensures decided { (bytes : List ℕ) → S.left input.old ≡ Some bytes
@@ -97,6 +99,7 @@ fn answer<S: Source, P: Sink, N: Sink>(
         × SaysTo (form_of words.now) result given (S.left input.new)
         (record { held = P.held picture.old; holds = P.held picture.new; before = P.faults picture.old; now = P.faults picture.new })
         (record { held = N.held notes.old; holds = N.held notes.new; before = N.faults notes.old; now = N.faults notes.new }) }
+    ensures later { N.faults notes.old ≤ N.faults notes.new }
     ensures unwritten { result ≢ Status.Done → result ≢ Status.WriteFault → picture.new ≡ picture.old }
     ensures read_fault { result ≡ Status.ReadFault → Rose (S.faults input.old) (S.faults input.new) }
     ensures decided { (form : Form) (bytes : List ℕ) → form_of words.now ≡ Some form → S.left input.old ≡ Some bytes

@@ -18,10 +18,11 @@ pub struct Output {
 
 /// Writes the picture whole, and then the notes.
 pub fn write<P: Sink, N: Sink>(output: &Output, picture: &mut P, notes: &mut N) -> Status
-    ensures { Written result
+    ensures written { Written result
         (record { held = P.held picture.old; holds = P.held picture.new; before = P.faults picture.old; now = P.faults picture.new })
         (record { held = N.held notes.old; holds = N.held notes.new; before = N.faults notes.old; now = N.faults notes.new })
         output.now.picture output.now.notes }
+    ensures later { N.faults notes.old ≤ N.faults notes.new }
 {
     if write_all(picture, output.picture.as_slice()).is_err() {
         return Status::WriteFault;
