@@ -6,7 +6,7 @@ use dri_words::Reason;
 /// How a top call ended.
 #[derive(Clone, Copy, Debug, PartialEq, Eq)]
 pub enum Status {
-    /// The picture was written whole.
+    /// Picture and notes were written whole.
     Done,
     /// The words are of no form.
     Usage,
@@ -16,7 +16,7 @@ pub enum Status {
     TooLong,
     /// The source failed.
     ReadFault,
-    /// The picture's sink failed before it took all.
+    /// A sink failed: the picture's before it took all, or the notes' once the picture was whole.
     WriteFault,
     /// A journal is no run of its scene: its first entry, counted from 1, that isn't legal.
     NotARun { entry: u32 },
