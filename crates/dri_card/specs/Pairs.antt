@@ -5,18 +5,21 @@ use Rattle.dri_base.specs.declared.colour.Pixel.{Pixel}
 use Rattle.dri_base.specs.declared.shape.ClipRect.{ClipRect}
 use Rattle.dri_base.specs.declared.shape.Point.{Point}
 use Rattle.dri_base.specs.declared.state.Registers.{Registers}
+use Rattle.dri_base.specs.declared.state.Blend.{Blend}
 use Rattle.dri_base.specs.declared.state.Shade.TheVariants.{Smooth}
+use Rattle.dri_base.specs.declared.state.TexMode.TheVariants as Mode_is
 use Rattle.dri_base.specs.declared.shape.Triangle.{Triangle}
 use Rattle.dri_base.specs.Coverage.{covers, quantity}
-use Rattle.dri_base.specs.Fragments.{Rules, in_scissor, shaded}
+use Rattle.dri_base.specs.Fragments.{Rules, in_scissor, over, shaded, textured}
 use Rattle.dri_model.specs.Words.{rules_in}
 use Rattle.dri_plane.specs.Grids.{in_rect}
-use Rattle.dri_texel.specs.Pixels.{left_over}
 use Rattle.dri_card.specs.declared.target.Target.{Target}
 use Rattle.dri_card.specs.declared.depth_test.DepthTest.{DepthTest}
 use Rattle.dri_card.specs.declared.drawing.Drawing.{Drawing}
 use Rattle.dri_card.specs.Contents.{HoldPairs}
-use Rattle.dri_card.specs.Samplings.{texel_of}
+use Rattle.dri_card.specs.declared.sampler.Texture.{Texture}
+use Rattle.dri_card.specs.declared.sampler.Texture.TheVariants as Texture_is
+use Rattle.dri_card.specs.Samplings.{sampled}
 
 -- byte a of a memory; beyond it, 0
 abbrev pub byte_in : List ℕ → ℕ → ℕ
@@ -39,12 +42,26 @@ own_colour (Some colour) t x y = colour
 abbrev pub is_drawn : DepthTest → ℕ → ℕ → Bool
 is_drawn d z depth = if nat_lt z depth then d.below else (if nat_lt depth z then d.above else d.equal)
 
--- the pair that a drawing leaves at the window's pixel (x, y)
-abbrev pub pair_left : Drawing → ℤ → ℤ → Pixel → Pixel
-pair_left d x y under =
+-- the colour that a texture makes of another at the quantities s and t
+abbrev pub turned : Texture → ℕ → ℕ → Rgba → Rgba
+turned Texture_is.Off s t c = c
+turned (Texture_is.Replace p) s t c = textured Mode_is.Replace (sampled p s t) c
+turned (Texture_is.Modulate p) s t c = textured Mode_is.Modulate (sampled p s t) c
+
+-- the colours that a texture makes of those of a triangle
+abbrev pub turned_at : Texture → (Triangle → ℤ → ℤ → Rgba) → Triangle → ℤ → ℤ → Rgba
+turned_at texture own t x y = turned texture (quantity t (λ v. v.s) x y) (quantity t (λ v. v.t) x y) (own t x y)
+
+-- the pair that a drawing leaves at the window's pixel (x, y) in these colours and by this blending
+abbrev pub pair_by : Drawing → (Triangle → ℤ → ℤ → Rgba) → Blend → ℤ → ℤ → Pixel → Pixel
+pair_by d colour blend x y under =
     if covers d.setup x y && is_drawn d.depth_test (quantity d.setup (λ v. v.z) x y) under.depth
-    then left_over d.registers (texel_of d.texture (quantity d.setup (λ v. v.s) x y) (quantity d.setup (λ v. v.t) x y)) (own_colour d.flat d.setup x y) (quantity d.setup (λ v. v.z) x y) under
+    then record { colour = over blend (colour d.setup x y) under.colour; depth = if d.depth_write then quantity d.setup (λ v. v.z) x y else under.depth }
     else under
+
+-- and in its own colours, with its texture, by its own blending
+abbrev pub pair_left : Drawing → ℤ → ℤ → Pixel → Pixel
+pair_left d = pair_by d (turned_at d.texture (own_colour d.flat)) d.blend
 
 -- place (a, b) lies in that row, from column left up to column right
 abbrev pub in_row : ℕ → ℕ → ℕ → ℕ → ℕ → Bool

@@ -1,5 +1,5 @@
 -- The texture that a triangle is drawn with.
-use Rattle.std.specs.Prelude.{ℕ, List, Option, Some, None}
+use Rattle.std.specs.Prelude.{ℕ, List}
 use Rattle.dri_base.specs.declared.colour.Rgb.{Rgb}
 use Rattle.dri_base.specs.declared.state.Wrap.{Wrap}
 use Rattle.dri_base.specs.declared.texture.BoundTexture.{BoundTexture}
@@ -15,8 +15,3 @@ pub record Sampling : Type 0 where
 -- its texel at the quantities s and t
 abbrev pub sampled : Sampling → ℕ → ℕ → Rgb
 sampled p s t = texel (image_in p.memory p.bound.base p.bound.shape) p.wrap s t
-
--- the texel at the quantities s and t, where there is a texture
-abbrev pub texel_of : Option Sampling → ℕ → ℕ → Option Rgb
-texel_of None s t = None
-texel_of (Some p) s t = Some (sampled p s t)

@@ -1,13 +1,18 @@
-//! The texture that a triangle is drawn with: where its image lies in the texture memory, and what is beyond its sides.
+//! The texture that a triangle is drawn with: where its image lies in the texture memory, what is beyond its sides, and what
+//! its texels do to the triangle's colour.
 
-ghost use Rattle.std.specs.Prelude.{◌≡◌, ℕ, length};
+ghost use Rattle.std.specs.Prelude.{◌≡◌, ℕ, length, IsTrue};
+ghost use Rattle.dri_base.specs.declared.colour.Rgba.{Rgba};
+ghost use Rattle.dri_base.specs.Coverage.{covers, quantity};
 ghost use Rattle.dri_model.specs.Words.{IsBoundInRange, card_image};
-ghost use Rattle.dri_texel.specs.Pixels.{texel_used};
+ghost use Rattle.dri_raster.specs.Edges.{IsPixel};
+ghost use Rattle.dri_texel.specs.Pixels.{coloured, texel_used};
 ghost use Rattle.dri_card.specs.Loading.{IsImageWithin};
-ghost use Rattle.dri_card.specs.Pairs.{byte_in};
-ghost use Rattle.dri_card.specs.Samplings.{sampled, texel_of};
+ghost use Rattle.dri_card.specs.Pairs.{byte_in, turned};
+ghost use Rattle.dri_card.specs.Samplings.{sampled};
 
 use dri_base::{BoundTexture, Registers, Rgb, TexMode, Wrap};
+use dri_raster::{Channel, Setup};
 use dri_texel::fetch;
 use std::marker::Model;
 
@@ -33,27 +38,16 @@ impl<'a> Model for Sampler<'a> {
 }
 
 impl<'a> Sampler<'a> {
-    /// The texture that the registers use: none where the mode is off or nothing is bound. A bound image has sides of 1 to
-    /// 256 and lies within the memory.
-    pub fn new(registers: &Registers, memory: &'a [u8]) -> Option<Sampler<'a>>
-        requires bound { IsBoundInRange registers.now.bound }
-        requires within { IsImageWithin (length memory.now) registers.now.bound }
-        ensures { (s t : ℕ) → texel_of result s t ≡ texel_used registers.now.tex_mode (card_image (byte_in memory.now) registers.now.bound) registers.now.wrap s t }
+    /// The texel at a pixel that the triangle covers.
+    #[inline(always)]
+    pub fn texel_at(&self, setup: &Setup, x: i32, y: i32) -> Rgb
+        requires x { IsPixel x }
+        requires y { IsPixel y }
+        requires covered { IsTrue (covers setup.now x y) }
+        ensures { result ≡ sampled self.now (quantity setup.now (λ v. v.s) x y) (quantity setup.now (λ v. v.t) x y) }
     {
-        match (registers.tex_mode, registers.bound) {
-            (TexMode::Off, _) | (_, None) => None,
-            (_, Some(bound)) => Some(Sampler {
-                memory,
-                bound,
-                wrap: registers.wrap,
-            }),
-        }
-    }
-
-    /// The texel at the quantities s and t.
-    pub fn texel(&self, s: u32, t: u32) -> Rgb
-        ensures { result ≡ sampled self.now s t }
-    {
+        let s = setup.value_at(Channel::S, x, y);
+        let t = setup.value_at(Channel::T, x, y);
         fetch(
             self.memory,
             self.bound.base,
@@ -62,5 +56,41 @@ impl<'a> Sampler<'a> {
             s,
             t,
         )
+    }
+}
+
+/// What a texture does to a triangle's own colour: nothing, or a texel takes its place or is multiplied with it.
+#[derive(Drop)]
+pub enum Texture<'a> {
+    Off,
+    Replace(Sampler<'a>),
+    Modulate(Sampler<'a>),
+}
+
+impl<'a> Texture<'a> {
+    /// The texture that the registers use: none where the mode is off or nothing is bound. A bound image has sides of 1 to
+    /// 256 and lies within the memory.
+    pub fn new(registers: &Registers, memory: &'a [u8]) -> Texture<'a>
+        requires bound { IsBoundInRange registers.now.bound }
+        requires within { IsImageWithin (length memory.now) registers.now.bound }
+        ensures { (s t : ℕ) (c : Rgba) → turned result s t c ≡ coloured registers.now.tex_mode (texel_used registers.now.tex_mode (card_image (byte_in memory.now) registers.now.bound) registers.now.wrap s t) c }
+    {
+        let Some(bound) = registers.bound else {
+            return Texture::Off;
+        };
+        let wrap = registers.wrap;
+        match registers.tex_mode {
+            TexMode::Off => Texture::Off,
+            TexMode::Replace => Texture::Replace(Sampler {
+                memory,
+                bound,
+                wrap,
+            }),
+            TexMode::Modulate => Texture::Modulate(Sampler {
+                memory,
+                bound,
+                wrap,
+            }),
+        }
     }
 }

@@ -1,18 +1,15 @@
--- One row more, and all.
-use Rattle.std.proofs.Common.{◌≡◌, rules, arith, subst}
-use Rattle.dri_card.specs.Pairs.{PairsBecome, drawn_at, pair_left}
-use Rattle.dri_card.proofs.DrawnPlaces.{rows_before, rows_more}
+-- One colour, or those of the corners.
+use Rattle.std.proofs.Common.{sym, subst}
+use Rattle.dri_plane.specs.Grids.{in_rect}
+use Rattle.dri_card.specs.Pairs.{PairsBecome, drawn_at, own_colour, pair_by, turned_at}
 use Rattle.dri_card.proofs.drawing.Drawing.draw.Goals as goal
 
-pub loop-y-preserved : goal.loop-y-preserved
-loop-y-preserved g c = record {
-  back = search rules;
-  depth = search rules;
-  pairs = rows_more c.args.target.now c.loop-y.target c.draw_row.new.target c.args.rect.now c.loop-y.y c.args.origin (pair_left c.args.self.now) (omega arith)
-      c.loop-y.invariant.pairs c.draw_row.ensures.pairs;
-}
+pub returns-in-Some-clause-pairs : goal.returns-in-Some-clause-pairs
+returns-in-Some-clause-pairs g c =
+    let d = c.args.self.now in
+    subst (λ flat. PairsBecome c.args.target.now c.draw_own.new.target (drawn_at (in_rect c.args.rect.now) c.args.origin (pair_by d (turned_at d.texture (own_colour flat)) d.blend))) (sym c.in-Some.is) c.draw_own.ensures.pairs
 
-pub returns-clause-pairs : goal.returns-clause-pairs
-returns-clause-pairs g c =
-    let end : c.loop-y.y ≡ c.args.rect.now.y2 = omega arith in
-    subst (λ y. PairsBecome c.args.target.now c.loop-y.target (drawn_at (rows_before c.args.rect.now y) c.args.origin (pair_left c.args.self.now))) end c.loop-y.invariant.pairs
+pub returns-in-None-clause-pairs : goal.returns-in-None-clause-pairs
+returns-in-None-clause-pairs g c =
+    let d = c.args.self.now in
+    subst (λ flat. PairsBecome c.args.target.now c.draw_own-in-None.new.target (drawn_at (in_rect c.args.rect.now) c.args.origin (pair_by d (turned_at d.texture (own_colour flat)) d.blend))) (sym c.in-None.is) c.draw_own-in-None.ensures.pairs

@@ -2,7 +2,6 @@
 use Rattle.std.proofs.Common.{◌≡◌, ℕ, ℤ, refl, subst, rules}
 use Rattle.dri_base.specs.Fragments.{fragment, passes, shaded}
 use Rattle.dri_model.specs.Words.{card_image}
-use Rattle.dri_texel.specs.Pixels.{view_of}
 use Rattle.dri_card.specs.Pairs.{byte_in, is_drawn, own_colour, pair_left, unscissored}
 use Rattle.dri_card.proofs.PixelRules.{drawing_is}
 use Rattle.dri_card.proofs.drawing.Drawing.new.Goals as goal
@@ -15,5 +14,5 @@ returns-clause-some c =
     let same : t ≡ c.in_ok-setup.setup = search rules in
     let colours : (x y : ℤ) → own_colour c.match-registers.result t x y ≡ shaded r.shade t x y = elim c.match-registers.branch [ in-Flat w ↦ λ x y. rw (w.result-is, w.in-Flat.is) refl | in-Smooth w ↦ λ x y. rw (w.result-is, w.in-Smooth.is) refl ] in
     let depths : (z depth : ℕ) → is_drawn c.new-2.result z depth ≡ passes r.depth_func z depth = c.new-2.ensures in
-    subst (λ s. pair_left (record { setup = s; registers = view_of (unscissored r); depth_test = c.new-2.result; flat = c.match-registers.result; texture = c.new-3.result }) ≡ fragment (unscissored r) (card_image (byte_in c.args.memory.now) r.bound) t) same
+    subst (λ s. pair_left (record { setup = s; depth_test = c.new-2.result; depth_write = r.depth_write; blend = r.blend; flat = c.match-registers.result; texture = c.new-3.result }) ≡ fragment (unscissored r) (card_image (byte_in c.args.memory.now) r.bound) t) same
     (drawing_is c.pixel_rule.ensures r (card_image (byte_in c.args.memory.now) r.bound) t c.new-2.result c.match-registers.result c.new-3.result depths colours c.new-3.ensures)

@@ -1,12 +1,12 @@
 -- The rows so far.
 use Rattle.std.proofs.Common.{◌≡◌}
-use Rattle.dri_card.specs.Pairs.{PairsBecome, drawn_at, pair_left}
+use Rattle.dri_card.specs.Pairs.{PairsBecome, drawn_at, pair_by}
 use Rattle.dri_card.proofs.DrawnPlaces.{rows_before}
-use Rattle.dri_card.proofs.drawing.Drawing.draw.Given as goal
+use Rattle.dri_card.proofs.drawing.Drawing.draw_rows.Given as goal
 
 abbrev pub invariant-loop-y : goal.invariant-loop-y
 invariant-loop-y g l = record {
   back : (l.target.back.width ≡ l.fn.target.back.width) × (l.target.back.height ≡ l.fn.target.back.height);
   depth : (l.target.depth.width ≡ l.fn.target.depth.width) × (l.target.depth.height ≡ l.fn.target.depth.height);
-  pairs : PairsBecome l.fn.target l.target (drawn_at (rows_before l.rect l.y) l.origin (pair_left l.self));
+  pairs : PairsBecome l.fn.target l.target (drawn_at (rows_before l.rect l.y) l.origin (pair_by l.self (g.C.Colouring.colour_at l.colouring) g.B.Blending.blend));
 }

@@ -1,0 +1,15 @@
+-- The texel in place of the colour, or multiplied with it.
+use Rattle.std.proofs.Common.{sym, subst}
+use Rattle.dri_plane.specs.Grids.{in_rect}
+use Rattle.dri_card.specs.Pairs.{PairsBecome, drawn_at, pair_by, turned_at}
+use Rattle.dri_card.proofs.drawing.Drawing.draw_own.Goals as goal
+
+pub returns-in-Replace-clause-pairs : goal.returns-in-Replace-clause-pairs
+returns-in-Replace-clause-pairs g c =
+    let d = c.args.self.now in
+    subst (λ texture. PairsBecome c.args.target.now c.draw_coloured-in-Replace.new.target (drawn_at (in_rect c.args.rect.now) c.args.origin (pair_by d (turned_at texture (g.C.Colouring.colour_at c.args.own.now)) d.blend))) (sym c.in-Replace.is) c.draw_coloured-in-Replace.ensures.pairs
+
+pub returns-in-Modulate-clause-pairs : goal.returns-in-Modulate-clause-pairs
+returns-in-Modulate-clause-pairs g c =
+    let d = c.args.self.now in
+    subst (λ texture. PairsBecome c.args.target.now c.draw_coloured-in-Modulate.new.target (drawn_at (in_rect c.args.rect.now) c.args.origin (pair_by d (turned_at texture (g.C.Colouring.colour_at c.args.own.now)) d.blend))) (sym c.in-Modulate.is) c.draw_coloured-in-Modulate.ensures.pairs
