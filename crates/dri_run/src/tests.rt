@@ -3,15 +3,27 @@
 use crate::{Status, drive};
 use dri_base::Bytes;
 use dri_io::{CallList, MemorySink, MemorySource, NeverFails, NullSink};
+use dri_sarea::{Sarea, SareaFault};
 use std::alloc::Global;
 use std::process::Abort;
 use std::test::Fail;
 
 const ROOT: &str = "dri 1\nscreen 1 1 000040\nheap 1 256\ndone\n";
 
-/// One triangle in a window of the whole screen.
-const TRIANGLE: &str =
-    "dri 1\n#a window and a client\nscreen 4 4 000040\nheap 1 256\nwindow 1 0 0 4 4 101010 1 up\n\nclient 1 1\nclear 000000 65535\ntriangle 0 0 0 ff0000ff 0 0 64 0 0 ff0000ff 0 0 0 64 0 ff0000ff 0 0\nswap\nend\ndone\n";
+/// A client's frame in a window of the whole screen: what stands before its triangle, the triangle, and what stands after
+/// it.
+const CLEARED: &str =
+    "dri 1\n#a window and a client\nscreen 4 4 000040\nheap 1 256\nwindow 1 0 0 4 4 101010 1 up\n\nclient 1 1\nclear 000000 65535\n";
+
+const TRIANGLE: &str = "triangle 0 0 0 ff0000ff 0 0 64 0 0 ff0000ff 0 0 0 64 0 ff0000ff 0 0\n";
+
+/// Its three points are one.
+const POINT: &str = "triangle 5 5 0 ff0000ff 0 0 5 5 0 ff0000ff 0 0 5 5 0 ff0000ff 0 0\n";
+
+const SWAPPED: &str = "swap\nend\ndone\n";
+
+const CLEARED_PIXELS: &[u8] =
+    b"P6\n4 4\n255\n\x00\x00\x00\x00\x00\x00\x00\x00\x00\x00\x00\x00\x00\x00\x00\x00\x00\x00\x00\x00\x00\x00\x00\x00\x00\x00\x00\x00\x00\x00\x00\x00\x00\x00\x00\x00\x00\x00\x00\x00\x00\x00\x00\x00\x00\x00\x00\x00";
 
 const TRIANGLE_PIXELS: &[u8] =
     b"P6\n4 4\n255\n\xff\x00\x00\xff\x00\x00\xff\x00\x00\x00\x00\x00\xff\x00\x00\xff\x00\x00\x00\x00\x00\x00\x00\x00\xff\x00\x00\x00\x00\x00\x00\x00\x00\x00\x00\x00\x00\x00\x00\x00\x00\x00\x00\x00\x00\x00\x00\x00";
@@ -71,8 +83,12 @@ const SCISSOR: &str =
 const BLENDS: &str =
     "dri 1\nscreen 3 1 000000\nheap 1 256\nwindow 2 1 0 1 1 222222 0 up\nwindow 1 0 0 3 1 111111 1 up\nclient 1 1\nclear 000000 65535\nset blend add\ntriangle 0 0 0 808080ff 0 0 320 0 0 808080ff 0 0 0 320 0 808080ff 0 0\nset blend alpha\ntriangle 0 0 0 ffffff80 0 0 320 0 0 ffffff80 0 0 0 320 0 ffffff80 0 0\nswap\nend\ndone\n";
 
-/// What stands before each of the texture's bytes in the scene of two clients whose textures take the whole heap.
-const TEXTURED: &str = "set texmode replace\nset bind 1\n";
+/// The scene of two clients whose textures take the whole heap: what stands before the first texture's bytes, and what
+/// stands after each texture's.
+const TWO_TEXTURES: &str =
+    "dri 1\nscreen 2 1 000000\nheap 1 256\nwindow 1 0 0 1 1 000000 1 up\nwindow 2 1 0 1 1 000000 2 up\nclient 1 1\ntexture 1 l8 16 16 ";
+
+const TEXTURED: &str = "\nset texmode replace\nset bind 1\n";
 
 const TEXTURED_FRAME: &str =
     "clear 000000 65535\ntriangle 0 0 0 ffffffff 0 0 64 0 0 ffffffff 0 0 0 64 0 ffffffff 0 0\nswap\n";
@@ -98,13 +114,19 @@ fn words_of(alloc: Global, line: &[&str]) -> Result<Vec<String>, Fail> {
     Ok(words)
 }
 
+/// Puts parts of a text last.
+fn push_parts(text: &mut Vec<u8>, parts: &[&str]) -> Result<(), Fail> {
+    for part in parts {
+        text.extend_from_slice(part.as_bytes())?;
+    }
+    Ok(())
+}
+
 /// A text in memory.
 fn bytes_of(alloc: Global, parts: &[&str]) -> Result<Bytes, Fail> {
-    let mut bytes = Vec::new(alloc);
-    for part in parts {
-        bytes.extend_from_slice(part.as_bytes())?;
-    }
-    Ok(Bytes::from_vec(bytes))
+    let mut text = Vec::new(alloc);
+    push_parts(&mut text, parts)?;
+    Ok(Bytes::from_vec(text))
 }
 
 /// Runs `turns` on a text, and compares the number that the program ends with, the picture and the notes.
@@ -171,10 +193,8 @@ fn fails(
 }
 
 #[test]
-fn scenes(rt: HostRuntime) -> Result<(), Fail> {
+fn one_frame(rt: HostRuntime) -> Result<(), Fail> {
     let alloc = rt.alloc();
-    let red = b"P6\n2 2\n255\n\xff\x00\x00\xff\x00\x00\xff\x00\x00\xff\x00\x00".as_slice();
-    let black = b"P6\n2 1\n255\n\x00\x00\x00\x00\x00\x00".as_slice();
     runs(
         &rt,
         alloc,
@@ -186,11 +206,26 @@ fn scenes(rt: HostRuntime) -> Result<(), Fail> {
     runs(
         &rt,
         alloc,
-        &[TRIANGLE],
+        &[CLEARED, TRIANGLE, SWAPPED],
         0,
         TRIANGLE_PIXELS,
         TRIANGLE_JOURNAL,
     )?;
+    runs(
+        &rt,
+        alloc,
+        &[CLEARED, POINT, SWAPPED],
+        0,
+        CLEARED_PIXELS,
+        TRIANGLE_JOURNAL,
+    )?;
+    Ok(())
+}
+
+#[test]
+fn two_frames(rt: HostRuntime) -> Result<(), Fail> {
+    let alloc = rt.alloc();
+    let black = b"P6\n2 1\n255\n\x00\x00\x00\x00\x00\x00".as_slice();
     runs(
         &rt,
         alloc,
@@ -207,7 +242,13 @@ fn scenes(rt: HostRuntime) -> Result<(), Fail> {
         black,
         "journal 1\ngone 1\ndone\n",
     )?;
-    runs(&rt, alloc, &[DIES], 0, black, DIES_JOURNAL)?;
+    runs(&rt, alloc, &[DIES], 0, black, DIES_JOURNAL)
+}
+
+#[test]
+fn raised_windows(rt: HostRuntime) -> Result<(), Fail> {
+    let alloc = rt.alloc();
+    let red = b"P6\n2 2\n255\n\xff\x00\x00\xff\x00\x00\xff\x00\x00\xff\x00\x00".as_slice();
     runs(&rt, alloc, &[OVER, RAISED], 0, red, OVER_JOURNAL)?;
     runs(
         &rt,
@@ -216,7 +257,12 @@ fn scenes(rt: HostRuntime) -> Result<(), Fail> {
         0,
         b"P6\n4 2\n255\n\xff\x00\x00\xff\x00\x00\x22\x22\x22\x22\x22\x22\xff\x00\x00\xff\x00\x00\x22\x22\x22\x22\x22\x22".as_slice(),
         BESIDE_JOURNAL,
-    )?;
+    )
+}
+
+#[test]
+fn two_clients(rt: HostRuntime) -> Result<(), Fail> {
+    let alloc = rt.alloc();
     runs(
         &rt,
         alloc,
@@ -232,14 +278,12 @@ fn scenes(rt: HostRuntime) -> Result<(), Fail> {
         0,
         b"P6\n4 2\n255\n\x00\x00\x00\x00\x00\x00\x00\xff\x00\x00\xff\x00\x00\x00\x00\x00\x00\x00\x00\xff\x00\x00\xff\x00".as_slice(),
         KILLED_JOURNAL,
-    )?;
-    Ok(())
+    )
 }
 
 #[test]
-fn refusals_and_faults(rt: HostRuntime) -> Result<(), Fail> {
+fn refusals(rt: HostRuntime) -> Result<(), Fail> {
     let alloc = rt.alloc();
-    let root = b"P6\n1 1\n255\n\x00\x00\x40".as_slice();
     let none = b"".as_slice();
     runs(
         &rt,
@@ -250,40 +294,60 @@ fn refusals_and_faults(rt: HostRuntime) -> Result<(), Fail> {
         "dri: line 13: twice\n",
     )?;
     runs(&rt, alloc, &[], 2, none, "dri: line 1: ended\n")?;
-    fails(
+    runs(
         &rt,
         alloc,
-        1,
-        0,
-        0,
-        Status::ReadFault,
+        &["dri 1\nscreen 1 1 000040\nheap 1 256\ndone"],
+        2,
         none,
-        b"dri: read failed\n".as_slice(),
-    )?;
-    fails(
-        &rt,
-        alloc,
-        0,
-        2,
-        0,
-        Status::WriteFault,
-        b"P6\n1".as_slice(),
-        b"dri: write failed\n".as_slice(),
-    )?;
-    fails(
-        &rt,
-        alloc,
-        0,
-        0,
-        2,
-        Status::WriteFault,
-        root,
-        b"journal dri: write failed\n".as_slice(),
+        "dri: line 4: ended\n",
     )?;
     refuses(&rt, alloc, &[])?;
     refuses(&rt, alloc, &["turns", "turns"])?;
     refuses(&rt, alloc, &["solo", "0", "1"])?;
-    refuses(&rt, alloc, &["make", "33"])?;
+    refuses(&rt, alloc, &["make", "33"])
+}
+
+#[test]
+fn faults(rt: HostRuntime) -> Result<(), Fail> {
+    let alloc = rt.alloc();
+    let root = b"P6\n1 1\n255\n\x00\x00\x40".as_slice();
+    let none = b"".as_slice();
+    let read = b"dri: read failed\n".as_slice();
+    let write = b"dri: write failed\n".as_slice();
+    let note = b"journal dri: write failed\n".as_slice();
+    let begun = b"P6\n1".as_slice();
+    fails(&rt, alloc, 1, 0, 0, Status::ReadFault, none, read)?;
+    fails(&rt, alloc, 0, 2, 0, Status::WriteFault, begun, write)?;
+    fails(&rt, alloc, 0, 0, 2, Status::WriteFault, root, note)
+}
+
+/// One byte more than a scene's text may have.
+fn too_many_bytes(alloc: Global) -> Result<Bytes, Fail> {
+    let mut bytes = Vec::new(alloc);
+    for _ in 0..16_777_217 {
+        bytes.push(b'#')?;
+    }
+    Ok(Bytes::from_vec(bytes))
+}
+
+#[test]
+fn too_long(rt: HostRuntime) -> Result<(), Fail> {
+    let alloc = rt.alloc();
+    let mut input = NeverFails::new(too_many_bytes(alloc)?, 16384);
+    let mut picture = MemorySink::new(alloc, 64, 64, calls(alloc, 0)?)?;
+    let mut notes = MemorySink::new(alloc, 64, 64, calls(alloc, 0)?)?;
+    let words = words_of(alloc, &["turns"])?;
+    let status = drive(
+        alloc,
+        words.as_slice(),
+        &mut input,
+        &mut picture,
+        &mut notes,
+    );
+    assert_eq!(rt; status.code(), 3);
+    assert_eq!(rt; picture.bytes(), b"".as_slice());
+    assert_eq!(rt; notes.bytes(), b"dri: too long\n".as_slice());
     Ok(())
 }
 
@@ -299,36 +363,25 @@ fn shows(rt: &impl Abort, alloc: Global, text: Bytes, picture: &[u8]) -> Result<
     Ok(())
 }
 
+/// Puts a texture's bytes last, which are all the same.
+fn push_texels(text: &mut Vec<u8>, texel: &str) -> Result<(), Fail> {
+    for _ in 0..256 {
+        text.extend_from_slice(texel.as_bytes())?;
+    }
+    Ok(())
+}
+
 /// The scene of two clients with one texture of the whole heap each.
 fn textures(alloc: Global) -> Result<Bytes, Fail> {
     let mut text = Vec::new(alloc);
-    text.extend_from_slice(
-        b"dri 1\nscreen 2 1 000000\nheap 1 256\nwindow 1 0 0 1 1 000000 1 up\nwindow 2 1 0 1 1 000000 2 up\nclient 1 1\ntexture 1 l8 16 16 ".as_slice(),
-    )?;
-    for _ in 0..256 {
-        text.extend_from_slice(b"40".as_slice())?;
-    }
-    for part in [
-        b"\n".as_slice(),
-        TEXTURED.as_bytes(),
-        TEXTURED_FRAME.as_bytes(),
-        TEXTURED_FRAME.as_bytes(),
-        b"end\nclient 2 2\ntexture 1 l8 16 16 ".as_slice(),
-    ] {
-        text.extend_from_slice(part)?;
-    }
-    for _ in 0..256 {
-        text.extend_from_slice(b"80".as_slice())?;
-    }
-    for part in [
-        b"\n".as_slice(),
-        TEXTURED.as_bytes(),
-        TEXTURED_FRAME.as_bytes(),
-        b"end\nturns\n".as_slice(),
-        TURNS.as_bytes(),
-    ] {
-        text.extend_from_slice(part)?;
-    }
+    push_parts(&mut text, &[TWO_TEXTURES])?;
+    push_texels(&mut text, "40")?;
+    let first = [TEXTURED, TEXTURED_FRAME, TEXTURED_FRAME];
+    push_parts(&mut text, &first)?;
+    push_parts(&mut text, &["end\nclient 2 2\ntexture 1 l8 16 16 "])?;
+    push_texels(&mut text, "80")?;
+    let second = [TEXTURED, TEXTURED_FRAME, "end\nturns\n", TURNS];
+    push_parts(&mut text, &second)?;
     Ok(Bytes::from_vec(text))
 }
 
@@ -362,10 +415,45 @@ fn pixels(rt: HostRuntime) -> Result<(), Fail> {
     Ok(())
 }
 
+/// Where an image of a shared area goes wrong with another byte at a place.
+fn bad_at(
+    rt: &impl Abort,
+    alloc: Global,
+    image: &[u8],
+    at: usize,
+    byte: u8,
+) -> Result<Option<u32>, Fail> {
+    let mut bytes = image.to_vec(alloc)?;
+    assert!(rt; at < bytes.len());
+    bytes[at] = byte;
+    match Sarea::from_bytes(alloc, bytes.as_slice()) {
+        Ok(_) => Ok(None),
+        Err(SareaFault::Bad(bad)) => Ok(Some(bad.at)),
+        Err(SareaFault::OutOfMemory) => Err(Fail::new("out of memory")),
+    }
+}
+
+/// Damages an image of a shared area at one byte, and compares where it goes wrong then.
+fn damages(rt: &impl Abort, alloc: Global, image: &[u8]) -> Result<(), Fail> {
+    let rows = [
+        (4, 1, Some(4)),
+        (5, 255, Some(5)),
+        (141, 255, Some(140)),
+        (2196, 255, Some(2196)),
+        (2737, 255, Some(2737)),
+        (0, 255, None),
+    ];
+    for (at, byte, bad) in rows {
+        assert_eq!(rt; bad_at(rt, alloc, image, at, byte)?, bad);
+    }
+    Ok(())
+}
+
 #[test]
 fn shared_area(rt: HostRuntime) -> Result<(), Fail> {
     let alloc = rt.alloc();
-    let mut input = NeverFails::new(bytes_of(alloc, &[TRIANGLE])?, 4096);
+    let text = bytes_of(alloc, &[CLEARED, TRIANGLE, SWAPPED])?;
+    let mut input = NeverFails::new(text, 4096);
     let mut area = MemorySink::new(alloc, 8192, 8192, calls(alloc, 0)?)?;
     let mut notes = MemorySink::new(alloc, 64, 64, calls(alloc, 0)?)?;
     let words = words_of(alloc, &["sarea"])?;
@@ -380,5 +468,5 @@ fn shared_area(rt: HostRuntime) -> Result<(), Fail> {
     );
     assert_eq!(rt; &area.bytes()[2200..2204], b"\x02\x00\x00\x00".as_slice());
     assert_eq!(rt; notes.bytes(), b"".as_slice());
-    Ok(())
+    damages(&rt, alloc, area.bytes())
 }
