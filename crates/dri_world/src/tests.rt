@@ -267,6 +267,25 @@ fn alone(alloc: Global, side: u32, commands: &[Command]) -> Result<Scene, OutOfM
     )
 }
 
+/// Puts turns of one actor last.
+fn push_turns(turns: &mut Items, actor: u32, count: u32) -> Result<(), OutOfMemory> {
+    for _ in 0..count {
+        turns.push(Item::Turn { actor })?;
+    }
+    Ok(())
+}
+
+/// Eight turns of client 1, two of client 2, and then these items.
+fn eight_and_two(alloc: Global, items: &[Item]) -> Result<Items, OutOfMemory> {
+    let mut turns = Items::new(alloc);
+    push_turns(&mut turns, 1, 8)?;
+    push_turns(&mut turns, 2, 2)?;
+    for item in items {
+        turns.push(*item)?;
+    }
+    Ok(turns)
+}
+
 /// Client 1 holds, with its first triangle drawn, and client 2 waits and has marked the word; then these items.
 fn two_clients(alloc: Global, items: &[Item]) -> Result<Scene, OutOfMemory> {
     let mut clients = Clients::new(alloc);
@@ -278,16 +297,7 @@ fn two_clients(alloc: Global, items: &[Item]) -> Result<Scene, OutOfMemory> {
     ];
     clients.push(script(alloc, 1, &first)?)?;
     clients.push(script(alloc, 2, &[clear(GREEN), Command::Swap])?)?;
-    let mut turns = Items::new(alloc);
-    for _ in 0..8 {
-        turns.push(Item::Turn { actor: 1 })?;
-    }
-    for _ in 0..2 {
-        turns.push(Item::Turn { actor: 2 })?;
-    }
-    for item in items {
-        turns.push(*item)?;
-    }
+    let turns = eight_and_two(alloc, items)?;
     let windows = [window(1, 0, 2, 2), window(2, 2, 2, 2)];
     scene(alloc, 4, 2, &windows, clients, turns)
 }
