@@ -11,3 +11,4 @@ pub mod Inside
 pub mod Bindings
 pub mod Opening
 pub mod Loading
+pub mod Examples

@@ -5,3 +5,4 @@ pub mod Copies
 pub mod Commands
 pub mod Sides
 pub mod Areas
+pub mod Examples
