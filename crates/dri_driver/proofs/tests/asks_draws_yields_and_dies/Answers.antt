@@ -2,7 +2,7 @@ use Rattle.std.proofs.Common.{◌∙◌, sym}
 use Rattle.dri_base.specs.Scenes.{commands_of}
 use Rattle.dri_meaning.specs.Privates.{opening_part}
 use Rattle.dri_driver.proofs.Telling.{opened_fits}
-use Rattle.dri_driver.proofs.tests.asks_runs_and_dies.Goals as goal
+use Rattle.dri_driver.proofs.tests.asks_draws_yields_and_dies.Goals as goal
 
 pub complain-requires-clause-fits : goal.complain-requires-clause-fits
 complain-requires-clause-fits g c =
