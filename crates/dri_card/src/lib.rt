@@ -14,8 +14,6 @@ mod opening;
 mod rows;
 mod sampler;
 mod target;
-#[cfg(test)]
-mod tests;
 
 pub use card::Card;
 pub use faults::{DispatchFault, LoadFault, OutsideCard};

@@ -4,8 +4,6 @@
 mod buffer;
 mod decoded;
 mod spelling;
-#[cfg(test)]
-mod tests;
 
 pub use buffer::{Buffer, BufferFull};
 pub use decoded::{Decoded, decode};

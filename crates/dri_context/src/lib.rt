@@ -7,8 +7,6 @@ mod emit;
 mod groups;
 mod law;
 mod reader;
-#[cfg(test)]
-mod tests;
 mod values;
 
 pub use apply::TakeWords;

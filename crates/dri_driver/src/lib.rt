@@ -7,8 +7,6 @@
 mod answers;
 mod client;
 mod phase;
-#[cfg(test)]
-mod tests;
 
 pub use answers::{Acted, Checked};
 pub use client::Client;

@@ -10,8 +10,6 @@ mod hold_runs;
 mod picture;
 mod settings;
 mod solo;
-#[cfg(test)]
-mod tests;
 mod triangle;
 mod worked;
 

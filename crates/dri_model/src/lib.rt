@@ -2,8 +2,6 @@
 //! and the command words. The functions here do nothing; their contracts are what holds of the definitions.
 #![tactic(auto)]
 
-#[cfg(test)]
-mod tests;
 
 ghost use Rattle.std.specs.Prelude.{◌≡◌, ◌<◌, ◌≤◌, ℕ, List, [], ◌∷◌, true, false};
 ghost use Rattle.dri_base.specs.declared.state.Registers.{Registers};

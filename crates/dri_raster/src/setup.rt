@@ -15,9 +15,6 @@ use crate::walk::Walk;
 use dri_base::{Rect, Triangle};
 use std::marker::Model;
 
-#[cfg(test)]
-mod tests;
-
 /// A triangle that has an area, ready for its pixels. Contracts see it as the triangle as it was given.
 #[derive(Drop)]
 pub struct Setup {

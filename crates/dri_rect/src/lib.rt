@@ -14,7 +14,5 @@ mod bands;
 mod operation;
 mod region;
 mod rows;
-#[cfg(test)]
-mod tests;
 
 pub use region::Region;

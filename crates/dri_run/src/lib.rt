@@ -12,6 +12,3 @@ mod writing;
 
 pub use status::Status;
 pub use top::drive;
-
-#[cfg(test)]
-mod tests;

@@ -8,8 +8,6 @@ mod fault;
 mod layout;
 mod read;
 mod sarea;
-#[cfg(test)]
-mod tests;
 mod write;
 
 pub use drawable::Drawable;

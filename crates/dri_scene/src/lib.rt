@@ -17,8 +17,6 @@ mod place;
 mod print;
 mod print_command;
 mod reading;
-#[cfg(test)]
-mod tests;
 mod words;
 
 pub use fault::SceneFault;

@@ -16,8 +16,6 @@ mod scripts;
 mod server_events;
 mod server_side;
 mod shared;
-#[cfg(test)]
-mod tests;
 
 pub use answers::{Taken, Told};
 pub use client_side::ClientSide;

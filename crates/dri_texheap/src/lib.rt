@@ -8,8 +8,6 @@ mod marks;
 mod placed;
 mod regions;
 mod run;
-#[cfg(test)]
-mod tests;
 
 pub use placed::Placed;
 pub use regions::Regions;

@@ -9,8 +9,6 @@ mod lock;
 mod rounds;
 mod schedule;
 mod server_turns;
-#[cfg(test)]
-mod tests;
 mod turned;
 mod turning;
 mod world;

@@ -1,0 +1,4 @@
+use Rattle.dri_leaf_tests.proofs.base.steps.Given as goal
+
+abbrev pub ghosts-take_two_steps : goal.ghosts-take_two_steps
+ghosts-take_two_steps a = record { name = a.blank.name; parts = a.blank.parts }

@@ -1,0 +1,104 @@
+//! The worked triangles.
+
+ghost use Rattle.std.specs.Prelude.{◌≡◌};
+ghost use Rattle.dri_base.specs.Ranges.{IsVertexPlace};
+
+use dri_base::{Point, Rect, Rgba, Triangle, Vertex};
+use dri_raster::{Channel, Setup, common_edge};
+use std::test::Fail;
+
+/// The first four rows' first four pixels.
+const SQUARE: Rect = Rect {
+    x1: 0,
+    y1: 0,
+    x2: 4,
+    y2: 4,
+};
+
+fn corner(x: i32, y: i32) -> Vertex
+    requires x { IsVertexPlace x }
+    requires y { IsVertexPlace y }
+    ensures x { result.x ≡ x }
+    ensures y { result.y ≡ y }
+{
+    Vertex {
+        x,
+        y,
+        z: 65535,
+        colour: Rgba {
+            r: 255,
+            g: 128,
+            b: 64,
+            a: 0,
+        },
+        s: 16,
+        t: 32,
+    }
+}
+
+/// Two halves of a square of four by four pixels share its diagonal.
+#[test]
+fn halves(rt: HostRuntime) -> Result<(), Fail> {
+    let upper = Triangle {
+        a: corner(64, 0),
+        b: corner(0, 64),
+        c: corner(0, 0),
+    };
+    let lower = Triangle {
+        a: corner(64, 0),
+        b: corner(0, 64),
+        c: corner(64, 64),
+    };
+    common_edge(&upper, &lower);
+    let first = Setup::new(&upper).expect(&rt, "the upper half has an area");
+    let second = Setup::new(&lower).expect(&rt, "the lower half has an area");
+    for y in 0..4u8 {
+        for x in 0..4u8 {
+            let (column, row) = (i32::from(x), i32::from(y));
+            assert_eq!(rt; first.covers(column, row), x + y <= 2);
+            assert_eq!(rt; second.covers(column, row), x + y > 2);
+        }
+    }
+    let points: Vec<Point> = first.for_rect(&SQUARE).collect(rt.alloc())?;
+    let places: [(i32, i32); 6] = [(0, 0), (1, 0), (2, 0), (0, 1), (1, 1), (0, 2)];
+    assert_eq!(rt; points.len(), 6);
+    for (point, (x, y)) in points.iter().zip(places) {
+        assert_eq!(rt; *point, Point { x, y });
+    }
+    assert_eq!(rt; second.for_rect(&SQUARE).count(), 10);
+    Ok(())
+}
+
+/// The largest triangle, at a pixel of its middle.
+#[test]
+fn largest(rt: HostRuntime) {
+    let triangle = Triangle {
+        a: corner(-32768, -32768),
+        b: corner(32767, -32768),
+        c: corner(-32768, 32767),
+    };
+    let setup = Setup::new(&triangle).expect(&rt, "the triangle has an area");
+    assert!(rt; setup.covers(-1, -1));
+    for (channel, value) in [
+        (Channel::Z, 65535),
+        (Channel::R, 255),
+        (Channel::G, 128),
+        (Channel::B, 64),
+        (Channel::A, 0),
+        (Channel::S, 16),
+        (Channel::T, 32),
+    ] {
+        assert_eq!(rt; setup.value_at(channel, -1, -1), value);
+    }
+}
+
+/// Three equal points have no area.
+#[test]
+fn empty(rt: HostRuntime) {
+    let triangle = Triangle {
+        a: corner(5, 5),
+        b: corner(5, 5),
+        c: corner(5, 5),
+    };
+    assert!(rt; Setup::new(&triangle).is_none());
+}

@@ -1,0 +1,134 @@
+//! The pixel rule and the texels, worked by hand.
+
+use dri_base::{Blend, DepthFunc, Pixel, Rgb, Rgba, TexFormat, TexMode, TexShape, Wrap};
+use dri_texel::{RegisterView, fetch, fragment, pixel_rule};
+use std::process::Abort;
+
+/// Every depth is drawn and written, with no texture and no blending.
+const PLAIN: RegisterView = RegisterView {
+    depth_func: DepthFunc::Always,
+    depth_write: true,
+    blend: Blend::Off,
+    tex_mode: TexMode::Off,
+};
+
+/// What lies under the pixel.
+const UNDER: Pixel = Pixel {
+    colour: Rgb {
+        r: 128,
+        g: 128,
+        b: 0,
+    },
+    depth: 500,
+};
+
+const COLOUR: Rgba = Rgba {
+    r: 255,
+    g: 128,
+    b: 0,
+    a: 128,
+};
+
+const TEXEL: Rgb = Rgb {
+    r: 10,
+    g: 128,
+    b: 255,
+};
+
+/// A byte of grey, then two by two texels of sixteen bits: the reddest, the least green, the least blue, and white.
+const MEMORY: [u8; 9] = [9, 0x00, 0xf8, 0x20, 0x00, 0x01, 0x00, 0xff, 0xff];
+
+fn rgb(r: u8, g: u8, b: u8) -> Rgb {
+    Rgb { r, g, b }
+}
+
+/// Under a depth function, draws below, at and above the depth under it, without writing the depth.
+fn draw_round_the_depth(rt: &impl Abort, depth_func: DepthFunc, drawn: [bool; 3]) {
+    let registers = RegisterView {
+        depth_func,
+        depth_write: false,
+        ..PLAIN
+    };
+    for (z, is_drawn) in [499, 500, 501].into_iter().zip(drawn) {
+        let left = fragment(&registers, None, COLOUR, z, UNDER);
+        let colour = if is_drawn {
+            rgb(255, 128, 0)
+        } else {
+            UNDER.colour
+        };
+        assert_eq!(rt; left, Pixel { colour, depth: 500 });
+    }
+}
+
+#[test]
+fn depths(rt: HostRuntime) {
+    for (depth_func, drawn) in [
+        (DepthFunc::Never, [false, false, false]),
+        (DepthFunc::Less, [true, false, false]),
+        (DepthFunc::Equal, [false, true, false]),
+        (DepthFunc::LessEqual, [true, true, false]),
+        (DepthFunc::Greater, [false, false, true]),
+        (DepthFunc::NotEqual, [true, false, true]),
+        (DepthFunc::GreaterEqual, [false, true, true]),
+        (DepthFunc::Always, [true, true, true]),
+    ] {
+        draw_round_the_depth(&rt, depth_func, drawn);
+    }
+    assert_eq!(rt; fragment(&PLAIN, None, COLOUR, 7, UNDER).depth, 7);
+    pixel_rule();
+}
+
+#[test]
+fn colours(rt: HostRuntime) {
+    for (tex_mode, texel, blend, colour) in [
+        (TexMode::Off, None, Blend::Off, rgb(255, 128, 0)),
+        (TexMode::Off, None, Blend::Alpha, rgb(192, 128, 0)),
+        (TexMode::Off, None, Blend::Add, rgb(255, 255, 0)),
+        (TexMode::Replace, Some(TEXEL), Blend::Off, rgb(10, 128, 255)),
+        (TexMode::Replace, None, Blend::Off, rgb(255, 128, 0)),
+        (
+            TexMode::Replace,
+            Some(TEXEL),
+            Blend::Alpha,
+            rgb(69, 128, 128),
+        ),
+        (TexMode::Modulate, Some(TEXEL), Blend::Off, rgb(10, 64, 0)),
+        (TexMode::Modulate, Some(TEXEL), Blend::Add, rgb(138, 192, 0)),
+    ] {
+        let registers = RegisterView {
+            blend,
+            tex_mode,
+            ..PLAIN
+        };
+        assert_eq!(rt;
+            fragment(&registers, texel, COLOUR, 500, UNDER).colour,
+            colour
+        );
+    }
+}
+
+#[test]
+fn texels(rt: HostRuntime) {
+    let grey = TexShape {
+        format: TexFormat::L8,
+        width: 1,
+        height: 1,
+    };
+    assert_eq!(rt; fetch(&MEMORY, 0, &grey, Wrap::Repeat, 5, 99), rgb(9, 9, 9));
+    let coloured = TexShape {
+        format: TexFormat::Rgb565,
+        width: 2,
+        height: 2,
+    };
+    for (wrap, s, t, colour) in [
+        (Wrap::Repeat, 15, 15, rgb(255, 0, 0)),
+        (Wrap::Repeat, 16, 0, rgb(0, 4, 0)),
+        (Wrap::Repeat, 0, 16, rgb(0, 0, 8)),
+        (Wrap::Repeat, 31, 31, rgb(255, 255, 255)),
+        (Wrap::Repeat, 32, 0, rgb(255, 0, 0)),
+        (Wrap::Clamp, 32, 0, rgb(0, 4, 0)),
+        (Wrap::Clamp, 0, 65535, rgb(0, 0, 8)),
+    ] {
+        assert_eq!(rt; fetch(&MEMORY, 1, &coloured, wrap, s, t), colour);
+    }
+}

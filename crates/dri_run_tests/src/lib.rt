@@ -1,0 +1,5 @@
+//! The tests of the top calls.
+#![tactic(auto)]
+
+#[cfg(test)]
+mod run;

@@ -1,5 +1,0 @@
-use Rattle.std.proofs.Common.{refl, arith}
-use Rattle.dri_sarea.proofs.tests.example.Goals as goal
-
-pub new-area-requires-clause-sized : goal.new-area-requires-clause-sized
-new-area-requires-clause-sized g c = (12, (omega arith, omega arith), refl)
