@@ -1,6 +1,6 @@
 //! The actors that wait for the lock, in the order in which they came: a vector in fixed memory, with room for all 33.
 
-ghost use Rattle.std.specs.Prelude.{◌≡◌, ◌++◌, [], ◌∷◌, ◌↔◌, IsTrue, false, slice_get};
+ghost use Rattle.std.specs.Prelude.{◌≡◌, ◌++◌, [], ◌∷◌, ◌↔◌, ◌≤◌, IsTrue, false, slice_get};
 ghost use Rattle.dri_kernel.specs.Waiting.{IsActor, is_queued, leaves};
 
 use arrayvec::ArrayVec;
@@ -69,5 +69,12 @@ impl Queue {
         ensures { IsTrue result ↔ (self.now ≡ []) }
     {
         self.actors.is_empty()
+    }
+
+    // How many wait.
+    pub(crate) fn len(&self) -> u32
+        ensures { result ≤ 33 }
+    {
+        self.actors.len() as u32
     }
 }

@@ -1,0 +1,193 @@
+//! The calls that wait: an actor that doesn't get the lock at once joins the queue, and the queue's
+//! front marks the lock word and sleeps until a hold ends through the kernel.
+
+ghost use Rattle.std.specs.Prelude.{◌≡◌, ◌≢◌, ◌⊎◌, ◌≤◌};
+ghost use Rattle.dri_hwlock.specs.Words.{IsFree};
+ghost use Rattle.dri_hwlock.specs.Tokens.{id_of, pass_token, left_lightly, late_token, hold_token, value_in, name_of, found_word, IsHoldOf, KeepsBase, AddsOwn, left_token};
+ghost use Rattle.dri_kernel.specs.Calls.{IsTakenAfter, IsUnlocked, IsReleased};
+ghost use Rattle.dri_kernel.specs.Waiting.{IsActor};
+
+use crate::queue::Queue;
+use dri_hwlock::{Guarded, Hold, HwLock, Late, Left, Marked, Pass, Refused};
+use std::sync::{Condvar, Mutex, Wait};
+
+/// The queue of those that wait, behind a mutex. It is shared by `&`.
+#[derive(Drop)]
+pub struct Kernel {
+    queue: Mutex<Queue>,
+    moved: Condvar,
+}
+
+impl Kernel {
+    /// A kernel in which nobody waits.
+    pub fn new() -> Kernel {
+        Kernel {
+            queue: Mutex::new(Queue::new()),
+            moved: Condvar::new(),
+        }
+    }
+
+    /// Takes the lock in its turn, as actor 0 to 32, after a light exchange that failed. It may wait,
+    /// and never refuses. The hold is one that `HwLock::take` could have given.
+    pub fn lock<G: Guarded>(
+        &self,
+        rt: &impl Wait,
+        hw: &HwLock<G>,
+        actor: u32,
+        late: Late<G>,
+    ) -> Hold<G>
+        requires actor { IsActor actor }
+        requires own { (late_token late).lock ≡ id_of hw.now }
+        ensures hold { IsHoldOf (late_token late) (late_token late).context result }
+        ensures looks { IsTakenAfter (late_token late) result }
+        ensures free { IsFree (found_word result) }
+        ensures found { (found_word result ≡ 0) ⊎ (found_word result ≡ G.closer_of (value_in result)) }
+        ensures other { found_word result ≢ (late_token late).context }
+    {
+        let mut late = late;
+        let mut queue = self.queue.lock(rt);
+        if !queue.contains(actor) {
+            queue.join(actor);
+        }
+        for _ in rt.forever() {
+            let mut sleeps = true;
+            if queue.front() == Some(actor) {
+                late = match hw.take(late) {
+                    Ok(hold) => {
+                        queue.remove(actor);
+                        self.moved.notify_all();
+                        return hold;
+                    }
+                    Err(Refused::Held { word: _, token }) => token,
+                    Err(
+                        Refused::Moved {
+                            loaded: _,
+                            found: _,
+                            token,
+                        },
+                    ) => token,
+                };
+                sleeps = matches!(hw.mark(&mut late), Marked::Contended { .. });
+            }
+            if sleeps {
+                queue = self.moved.wait(rt, queue);
+            }
+        }
+        unreachable!()
+    }
+
+    /// Takes the lock in its turn, as actor 0 to 32, in the name of context 1. Any pass may do so. It
+    /// may wait, and never refuses. The hold is one that `HwLock::take_as_server` could have given.
+    pub fn lock_as_server<G: Guarded>(
+        &self,
+        rt: &impl Wait,
+        hw: &HwLock<G>,
+        actor: u32,
+        pass: Pass<G>,
+    ) -> Hold<G>
+        requires actor { IsActor actor }
+        requires own { (pass_token pass).lock ≡ id_of hw.now }
+        ensures hold { IsHoldOf (pass_token pass) 1 result }
+        ensures looks { IsTakenAfter (pass_token pass) result }
+        ensures free { IsFree (found_word result) }
+        ensures found { (found_word result ≡ 0) ⊎ (found_word result ≡ G.closer_of (value_in result)) }
+    {
+        let mut pass = pass;
+        let mut queue = self.queue.lock(rt);
+        if !queue.contains(actor) {
+            queue.join(actor);
+        }
+        for _ in rt.forever() {
+            let mut sleeps = true;
+            if queue.front() == Some(actor) {
+                pass = match hw.take_as_server(pass) {
+                    Ok(hold) => {
+                        queue.remove(actor);
+                        self.moved.notify_all();
+                        return hold;
+                    }
+                    Err(Refused::Held { word: _, token }) => token,
+                    Err(
+                        Refused::Moved {
+                            loaded: _,
+                            found: _,
+                            token,
+                        },
+                    ) => token,
+                };
+                sleeps = matches!(hw.mark_as_server(&mut pass), Marked::Contended { .. });
+            }
+            if sleeps {
+                queue = self.moved.wait(rt, queue);
+            }
+        }
+        unreachable!()
+    }
+
+    /// Ends a hold in the name of its own context: by the light leave, or, exactly where the held word
+    /// was marked, through the kernel. It may wait for the mutex.
+    pub fn unlock<G: Guarded>(&self, rt: &impl Wait, hw: &HwLock<G>, hold: Hold<G>) -> Pass<G>
+        requires own { (hold_token hold).lock ≡ id_of hw.now }
+        requires client { name_of hold ≡ (hold_token hold).context }
+        requires base { KeepsBase hold }
+        requires adds { AddsOwn hold }
+        requires closer { G.closer_of (value_in hold) ≡ (hold_token hold).context }
+        ensures { IsUnlocked (left_token hold) (pass_token result) (left_lightly result) }
+    {
+        match hw.leave(hold) {
+            Ok(pass) => pass,
+            Err(parting) => {
+                let pass = hw.leave_kernel(parting);
+                self.wake(rt);
+                pass
+            }
+        }
+    }
+
+    /// Ends a hold that was taken as server. It may wait for the mutex.
+    pub fn unlock_server<G: Guarded>(
+        &self,
+        rt: &impl Wait,
+        hw: &HwLock<G>,
+        hold: Hold<G>,
+    ) -> Pass<G>
+        requires own { (hold_token hold).lock ≡ id_of hw.now }
+        requires server { name_of hold ≡ 1 }
+        requires base { KeepsBase hold }
+        requires adds { AddsOwn hold }
+        requires closer { G.closer_of (value_in hold) ≡ 1 }
+        ensures { IsReleased (left_token hold) (pass_token result) (left_lightly result) }
+    {
+        let Left { pass, contended } = hw.leave_server(hold);
+        if contended {
+            self.wake(rt);
+        }
+        pass
+    }
+
+    /// Gives a hold up, for a death or for want of memory. It may wait for the mutex.
+    pub fn release<G: Guarded>(&self, rt: &impl Wait, hw: &HwLock<G>, hold: Hold<G>) -> Pass<G>
+        requires own { (hold_token hold).lock ≡ id_of hw.now }
+        requires base { KeepsBase hold }
+        requires adds { AddsOwn hold }
+        ensures { IsReleased (left_token hold) (pass_token result) (left_lightly result) }
+    {
+        let pass = hw.leave_kernel(hw.part(hold));
+        self.wake(rt);
+        pass
+    }
+
+    /// How many actors wait, at the moment at which the mutex was got. It may wait for the mutex.
+    pub fn waiting(&self, rt: &impl Wait) -> u32
+        ensures { result ≤ 33 }
+    {
+        self.queue.lock(rt).len()
+    }
+
+    // Wakes those that sleep. Under the mutex none of them is between its look at the word and its
+    // sleep.
+    fn wake(&self, rt: &impl Wait) {
+        let _queue = self.queue.lock(rt);
+        self.moved.notify_all();
+    }
+}
