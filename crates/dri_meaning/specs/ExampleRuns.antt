@@ -99,3 +99,24 @@ grey v = rgb v v v
 -- how a journal ends, by the check's count: frames, those that stood, and whether nothing is left to do
 abbrev pub summary : Scene → List Entry → ℕ × ℕ × Bool
 summary s journal = ((tally s journal).frames, (tally s journal).stood, is_whole s journal)
+
+-- one frame, and then the changes
+abbrev pub partly_covered_journal : List Entry
+partly_covered_journal = first_hold 1 1 ++ Run 1 1 ∷ Run 1 2 ∷ Leave 1 ∷ Change 1 ∷ Change 2 ∷ []
+
+-- so many changes
+abbrev pub six_changes : List Entry
+six_changes = Change 1 ∷ Change 2 ∷ Change 3 ∷ Change 4 ∷ Change 5 ∷ Change 6 ∷ []
+
+-- nothing is emitted in the last hold
+abbrev pub taken_again_journal : List Entry
+taken_again_journal = first_hold 1 1 ++ Run 1 1 ∷ Emit 1 127 ∷ Run 1 2 ∷ Run 1 3 ∷ Leave 1 ∷ Change 1 ∷ Kernel 1 1 ∷ Run 1 4 ∷ Run 1 5 ∷ Leave 1 ∷ []
+
+-- the server comes before the client that was stopped
+abbrev pub stopped_journal : List Entry
+stopped_journal = first_triangle ++ Run 1 3 ∷ Run 1 4 ∷ Leave 1 ∷ Change 1 ∷ Gone 2 ∷ []
+
+-- the first texture stays while the second is placed
+abbrev pub two_regions_journal : List Entry
+two_regions_journal = first_hold 1 1 ++ Run 1 1 ∷ Run 1 2 ∷ Run 1 3 ∷ Place 1 1 0 1 ∷ Emit 1 127 ∷ Run 1 4 ∷ Run 1 5 ∷ Place 1 2 1 1 ∷ Emit 1 32 ∷
+    Run 1 6 ∷ Run 1 7 ∷ Emit 1 32 ∷ Run 1 8 ∷ Run 1 9 ∷ Leave 1 ∷ []

@@ -1,8 +1,8 @@
 -- Scenes that were worked by hand.
-use Rattle.std.specs.Prelude.{ℕ, List, [], ◌∷◌, ◌++◌, ℤ, pos, neg_ℤ, true, Some, replicate}
+use Rattle.std.specs.Prelude.{ℕ, List, [], ◌∷◌, ◌++◌, ℤ, pos, neg_ℤ, true, Some, None, replicate}
 use Rattle.dri_base.specs.declared.colour.Rgb.{Rgb}
 use Rattle.dri_base.specs.declared.colour.Rgba.{Rgba}
-use Rattle.dri_base.specs.declared.command.Change.TheVariants.{Raise, Lower}
+use Rattle.dri_base.specs.declared.command.Change.TheVariants.{Map, Unmap, Move, Resize, Raise, Lower}
 use Rattle.dri_base.specs.declared.command.Change.{Change}
 use Rattle.dri_base.specs.declared.command.Command.TheVariants.{Set, Clear, Triangle, Swap, Yield, Die}
 use Rattle.dri_base.specs.declared.command.Command.{Command}
@@ -13,6 +13,7 @@ use Rattle.dri_base.specs.declared.scene.Scene.{Scene}
 use Rattle.dri_base.specs.declared.scene.Window.{Window}
 use Rattle.dri_base.specs.declared.shape.Vertex.{Vertex}
 use Rattle.dri_base.specs.declared.state.Blend.TheVariants as Blend_is
+use Rattle.dri_base.specs.declared.state.DepthFunc.TheVariants as Depth_is
 use Rattle.dri_base.specs.declared.state.Setting.TheVariants as Setting_is
 use Rattle.dri_base.specs.declared.state.TexMode.TheVariants as Mode_is
 use Rattle.dri_base.specs.declared.texture.TexFormat.TheVariants.{L8}
@@ -156,3 +157,81 @@ blended_twice = scene 3 1
     (script 1 [] (Clear (rgb 0 0 0) 65535 ∷ Set (Setting_is.Blend Blend_is.Add) ∷ corner_triangle 320 (rgba 0x80 0x80 0x80 0xff) ∷
     Set (Setting_is.Blend Blend_is.Alpha) ∷ corner_triangle 320 (rgba 0xff 0xff 0xff 0x80) ∷ Swap ∷ []) ∷ [])
     [] []
+
+-- a window of three pixels, under which another lies that is raised and lowered again
+abbrev pub partly_covered : Scene
+partly_covered = scene 3 1
+    (window 1 (pos 0) (pos 0) 3 1 (rgb 0x11 0x11 0x11) 1 ∷ window 2 (pos 1) (pos 0) 1 1 (rgb 0x22 0x22 0x22) 0 ∷ [])
+    (script 1 [] (Clear (rgb 0xff 0 0) 65535 ∷ Swap ∷ []) ∷ [])
+    (Raise 2 ∷ Lower 2 ∷ []) raised_and_lowered
+
+-- windows that are moved, resized, unmapped and mapped; the last change is refused
+abbrev pub moved_about : Scene
+moved_about = scene 4 1
+    (window 1 (pos 1) (pos 0) 1 1 (rgb 0x11 0x11 0x11) 0 ∷ window 2 (pos 0) (pos 0) 2 1 (rgb 0x22 0x22 0x22) 0 ∷ [])
+    []
+    (Move 1 (pos 2) (pos 0) ∷ Resize 1 2 1 ∷ Move 2 (pos 1) (pos 0) ∷ Unmap 2 ∷ Map 2 ∷ Map 2 ∷ []) []
+
+-- a client that owns two windows is killed
+abbrev pub two_windows : Scene
+two_windows = scene 2 1
+    (window 1 (pos 0) (pos 0) 1 1 (rgb 0x11 0x11 0x11) 1 ∷ window 3 (pos 1) (pos 0) 1 1 (rgb 0x33 0x33 0x33) 1 ∷ [])
+    (script 1 [] (Swap ∷ []) ∷ [])
+    [] (Kill 1 ∷ [])
+
+-- a second frame without a clear
+abbrev pub shown_twice : Scene
+shown_twice = scene 2 1
+    (window 1 (pos 0) (pos 0) 2 1 (rgb 0x11 0x11 0x11) 1 ∷ [])
+    (script 1 [] (Clear (rgb 0xff 0 0) 65535 ∷ Swap ∷ corner_triangle 32 (rgba 0 0xff 0 0xff) ∷ Swap ∷ []) ∷ [])
+    [] []
+
+-- a client that comes back by the kernel while the card is still its own
+abbrev pub taken_again : Scene
+taken_again = scene 4 1
+    (window 1 (pos 0) (pos 0) 2 1 (rgb 0x11 0x11 0x11) 1 ∷ window 2 (pos 2) (pos 0) 2 1 (rgb 0x22 0x22 0x22) 0 ∷ [])
+    (script 1 [] (Clear (rgb 0 0 0) 65535 ∷ corner_triangle 320 (rgba 0xff 0 0 0xff) ∷ Yield ∷ corner_triangle 320 (rgba 0 0xff 0 0xff) ∷ Swap ∷ []) ∷ [])
+    (Raise 2 ∷ []) (turns_of 10 1 ++ turns_of 1 0)
+
+-- the client that waits at the front is stopped, and the server waits behind it
+abbrev pub stopped_in_the_queue : Scene
+stopped_in_the_queue = record waiting_one { changes = Raise 2 ∷ []; turns = waiting_one.turns ++ Kill 2 ∷ Turn 0 ∷ [] }
+
+-- the same at a depth, over the whole window
+abbrev pub deep_triangle : ℕ → Rgba → Command
+deep_triangle z colour = Triangle (record {
+  a = record (corner 0 0 colour) { z = z };
+  b = record (corner 320 0 colour) { z = z };
+  c = record (corner 0 320 colour) { z = z };
+})
+
+-- a client alone on a row of so many pixels
+abbrev pub on_a_row : ℕ → List Texture → List Command → Scene
+on_a_row width textures commands = scene width 1 (window 1 (pos 0) (pos 0) width 1 (rgb 0x11 0x11 0x11) 1 ∷ []) (script 1 textures commands ∷ []) [] []
+
+-- a near triangle in a scissor, and one behind it
+abbrev pub in_depth : Scene
+in_depth = on_a_row 3 [] (Clear (rgb 0 0 0) 65535 ∷ Set (Setting_is.DepthFunc Depth_is.Less) ∷ Set (Setting_is.DepthWrite true) ∷
+    Set (Setting_is.Scissor (Some (record { x1 = 0; y1 = 0; x2 = 2; y2 = 1 }))) ∷ deep_triangle 50 (rgba 0xff 0 0 0xff) ∷
+    Set (Setting_is.Scissor None) ∷ deep_triangle 60 (rgba 0 0xff 0 0xff) ∷ Swap ∷ [])
+
+-- a triangle of three colours in the default state, and then one that isn't less deep than the clear
+abbrev pub by_default : Scene
+by_default = on_a_row 1 [] (Clear (rgb 0 0 0) 0 ∷
+    Triangle (record { a = record (corner 0 0 (rgba 0xff 0 0 0xff)) { z = 9 }; b = record (corner 64 0 (rgba 0 0xff 0 0xff)) { z = 9 }; c = record (corner 0 64 (rgba 0 0 0xff 0xff)) { z = 9 } }) ∷
+    Set (Setting_is.DepthFunc Depth_is.Less) ∷ deep_triangle 5 (rgba 0xff 0 0 0xff) ∷ Swap ∷ [])
+
+-- a texture of two by two greys, whose columns run along the row
+abbrev pub along_the_row : Scene
+along_the_row = on_a_row 2 (record { number = 1; shape = record { format = L8; width = 2; height = 2 }; bytes = 1 ∷ 2 ∷ 3 ∷ 4 ∷ [] } ∷ [])
+    (textured (Clear (rgb 0 0 0) 65535 ∷
+    Triangle (record { a = corner 0 0 (rgba 0 0 0 0xff); b = record (corner 64 0 (rgba 0 0 0 0xff)) { s = 64 }; c = corner 0 64 (rgba 0 0 0 0xff) }) ∷ Swap ∷ []))
+
+-- one grey texel
+abbrev pub one_texel : ℕ → ℕ → Texture
+one_texel number grey = record { number = number; shape = record { format = L8; width = 1; height = 1 }; bytes = grey ∷ [] }
+
+-- two textures in a region each
+abbrev pub two_regions : Scene
+two_regions = record (on_a_row 1 (one_texel 1 0x40 ∷ one_texel 2 0x80 ∷ []) (textured (Clear (rgb 0 0 0) 65535 ∷ deep_triangle 0 (rgba 0 0 0 0xff) ∷
+    Set (Setting_is.Bind (Some 2)) ∷ deep_triangle 0 (rgba 0 0 0 0xff) ∷ Set (Setting_is.Bind (Some 1)) ∷ deep_triangle 0 (rgba 0 0 0 0xff) ∷ Swap ∷ []))) { regions = 2 }

@@ -2,10 +2,12 @@
 //! a hold-run, and it leaves the picture, the count of frames and the lock word that were found by hand.
 
 ghost use Rattle.std.specs.Prelude.{◌≡◌, [], ◌∷◌, take, true, false, Some, None, pos};
-ghost use Rattle.dri_base.specs.declared.journal.Entry.TheVariants.{Gone};
+ghost use Rattle.std.specs.Prelude.{◌++◌};
+ghost use Rattle.dri_base.specs.declared.journal.Entry.TheVariants.{Gone, Kernel, Leave, Stale, Info, Change, Run, Light};
+ghost use Rattle.dri_meaning.specs.Decide.{is_hold_run};
 ghost use Rattle.dri_meaning.specs.Cores.{journal_of};
-ghost use Rattle.dri_meaning.specs.ExampleScenes.{one_triangle, two_frames, under_another, killed_first, dies, covered, beside, waiting_one, killed, one_region, cut_out, blended_twice};
-ghost use Rattle.dri_meaning.specs.ExampleRuns.{picture, summary, word_after_all, red, green, blue, grey, one_triangle_journal, two_frames_journal, dies_journal, covered_journal, beside_journal, waiting_one_journal, killed_journal, one_region_journal, cut_out_journal, blended_twice_journal};
+ghost use Rattle.dri_meaning.specs.ExampleScenes.{one_triangle, two_frames, under_another, killed_first, dies, covered, beside, waiting_one, killed, one_region, cut_out, blended_twice, partly_covered, moved_about, two_windows, shown_twice, taken_again, stopped_in_the_queue, in_depth, by_default, along_the_row, two_regions};
+ghost use Rattle.dri_meaning.specs.ExampleRuns.{picture, summary, word_after_all, red, green, blue, grey, one_triangle_journal, two_frames_journal, dies_journal, covered_journal, beside_journal, waiting_one_journal, killed_journal, one_region_journal, cut_out_journal, blended_twice_journal, partly_covered_journal, six_changes, taken_again_journal, stopped_journal, first_hold, two_regions_journal};
 ghost use Rattle.dri_meaning.specs.Runs.{after, HoldRun};
 ghost use Rattle.dri_base.specs.Ranges.{InRange};
 ghost use Rattle.dri_base.specs.Scenes.{script_of};
@@ -110,4 +112,71 @@ pub fn two_blends()
     ensures journal { journal_of (turns_and_rounds blended_twice 18) ≡ blended_twice_journal }
     ensures run { HoldRun blended_twice blended_twice_journal }
     ensures picture { picture blended_twice blended_twice_journal ≡ (grey 0xc0 ∷ grey 0x22 ∷ grey 0xc0 ∷ []) ∷ [] }
+{}
+
+/// A window that is covered in part and uncovered: only there front is painted, and not as it was.
+pub fn covered_in_part()
+    ensures journal { journal_of (turns_and_rounds partly_covered 8) ≡ partly_covered_journal }
+    ensures covered { picture partly_covered (take 9 partly_covered_journal) ≡ (red ∷ grey 0x22 ∷ red ∷ []) ∷ [] }
+    ensures uncovered { picture partly_covered partly_covered_journal ≡ (red ∷ grey 0x11 ∷ red ∷ []) ∷ [] }
+{}
+
+/// Each kind of change, and one that is refused.
+pub fn changes_one_by_one()
+    ensures moved { picture moved_about (take 1 six_changes) ≡ (grey 0x22 ∷ grey 0x22 ∷ grey 0x11 ∷ grey 0 ∷ []) ∷ [] }
+    ensures resized { picture moved_about (take 2 six_changes) ≡ (grey 0x22 ∷ grey 0x22 ∷ grey 0x11 ∷ grey 0x11 ∷ []) ∷ [] }
+    ensures under { picture moved_about (take 3 six_changes) ≡ (grey 0 ∷ grey 0x22 ∷ grey 0x11 ∷ grey 0x11 ∷ []) ∷ [] }
+    ensures unmapped { picture moved_about (take 4 six_changes) ≡ (grey 0 ∷ grey 0 ∷ grey 0x11 ∷ grey 0x11 ∷ []) ∷ [] }
+    ensures mapped { picture moved_about (take 5 six_changes) ≡ (grey 0 ∷ grey 0x22 ∷ grey 0x11 ∷ grey 0x11 ∷ []) ∷ [] }
+    ensures refused { (after moved_about six_changes).counter ≡ (after moved_about (take 5 six_changes)).counter }
+    ensures summary { summary moved_about six_changes ≡ (0, 0, true) }
+{}
+
+/// A death unmaps each window of its client.
+pub fn death_of_two_windows()
+    ensures picture { picture two_windows (Gone 1 ∷ []) ≡ (grey 0 ∷ grey 0 ∷ []) ∷ [] }
+{}
+
+/// A swap leaves back as it is.
+pub fn shown_again()
+    ensures picture { picture shown_twice (journal_of (turns_and_rounds shown_twice 17)) ≡ (green ∷ red ∷ []) ∷ [] }
+    ensures summary { summary shown_twice (journal_of (turns_and_rounds shown_twice 17)) ≡ (1, 1, true) }
+{}
+
+/// Who comes back while the card is its own emits nothing again.
+pub fn own_card()
+    ensures journal { journal_of (turns_and_rounds taken_again 8) ≡ taken_again_journal }
+{}
+
+/// A client that is stopped leaves the queue, and the mark stays.
+pub fn stopped()
+    ensures word { word_after_all stopped_in_the_queue (turns_and_rounds stopped_in_the_queue 0) ≡ 0xC0000002 }
+    ensures journal { journal_of (turns_and_rounds stopped_in_the_queue 10) ≡ stopped_journal }
+{}
+
+/// Entries that no hold-run has.
+pub fn no_hold_runs()
+    ensures own_context { is_hold_run two_frames (take 8 two_frames_journal ++ Kernel 1 2 ∷ []) ≡ false }
+    ensures other_context { is_hold_run two_frames (Kernel 1 3 ∷ []) ≡ false }
+    ensures leaves_early { is_hold_run two_frames (first_hold 1 1 ++ Leave 1 ∷ []) ≡ false }
+    ensures unnamed { is_hold_run two_frames (first_hold 1 1 ++ Gone 1 ∷ []) ≡ false }
+    ensures runs_twice { is_hold_run two_frames (take 11 two_frames_journal ++ Run 1 4 ∷ Run 1 4 ∷ []) ≡ false }
+    ensures informed_early { is_hold_run waiting_one (Kernel 2 1 ∷ Stale 2 ∷ Leave 2 ∷ Kernel 1 3 ∷ Info 2 ∷ []) ≡ false }
+    ensures second_change { is_hold_run partly_covered (Change 2 ∷ []) ≡ false }
+{}
+
+/// Depths are compared and written where they are set, and neither in the default state, whose triangles are flat.
+pub fn depths()
+    ensures set { picture in_depth (journal_of (turns_and_rounds in_depth 20)) ≡ (red ∷ red ∷ green ∷ []) ∷ [] }
+    ensures default { picture by_default (journal_of (turns_and_rounds by_default 20)) ≡ (blue ∷ []) ∷ [] }
+{}
+
+/// Columns of a texture run along the row.
+pub fn columns()
+    ensures picture { picture along_the_row (journal_of (turns_and_rounds along_the_row 20)) ≡ (grey 1 ∷ grey 2 ∷ []) ∷ [] }
+{}
+
+/// What a placing doesn't free stays placed.
+pub fn two_places()
+    ensures journal { journal_of (turns_and_rounds two_regions 22) ≡ two_regions_journal }
 {}

@@ -1,8 +1,9 @@
 -- A heap of eight regions and the two triangles of a square, worked by hand.
-use Rattle.std.specs.Prelude.{ℕ, List, [], ◌∷◌, map, filter, get_or, Bool, ◌==◌, not, pos}
+use Rattle.std.specs.Prelude.{ℕ, ◌+◌, List, [], ◌∷◌, map, filter, get_or, Bool, ◌==◌, not, pos}
+use Rattle.dri_base.specs.declared.colour.Rgba.{Rgba}
 use Rattle.dri_base.specs.declared.shape.Triangle.{Triangle}
 use Rattle.dri_base.specs.declared.shape.Vertex.{Vertex}
-use Rattle.dri_base.specs.Coverage.{covers}
+use Rattle.dri_base.specs.Coverage.{covers, quantity}
 use Rattle.dri_model.specs.Heaps.{Heap, Run}
 
 -- a vertex at a place; all else is 0
@@ -46,3 +47,35 @@ ages h = map h.age (0 ∷ 1 ∷ 2 ∷ 3 ∷ 4 ∷ 5 ∷ 6 ∷ 7 ∷ [])
 -- neighbouring regions
 abbrev pub neighbours : ℕ → ℕ → Run
 neighbours first count = record { first = first; count = count }
+
+-- a colour without transparency
+abbrev pub opaque : ℕ → ℕ → ℕ → Rgba
+opaque r g b = record { r = r; g = g; b = b; a = 255 }
+
+-- a red corner, a green one four pixels to the right with depth 64, and a blue one four pixels below
+abbrev pub three_corners : Triangle
+three_corners = record {
+  a = record (vertex_at 0 0) { colour = opaque 255 0 0 };
+  b = record (vertex_at 64 0) { z = 64; colour = opaque 0 255 0 };
+  c = record (vertex_at 0 64) { colour = opaque 0 0 255 };
+}
+
+-- the same places and depths the other way round, with green below
+abbrev pub other_way : Triangle
+other_way = record {
+  a = record (vertex_at 0 0) { colour = opaque 255 0 0 };
+  b = record (vertex_at 0 64) { colour = opaque 0 255 0 };
+  c = record (vertex_at 64 0) { z = 64; colour = opaque 0 0 255 };
+}
+
+-- the depths at the first three pixels of the first row
+abbrev pub depths : Triangle → List ℕ
+depths t = map (λ x. quantity t (λ v. v.z) (pos x) (pos 0)) (0 ∷ 1 ∷ 2 ∷ [])
+
+-- a triangle with a horizontal edge through the centres of row 2, and its third corner at this height
+abbrev pub on_row_two : ℕ → Triangle
+on_row_two y = record { a = vertex_at 0 40; b = vertex_at 64 40; c = vertex_at 0 y }
+
+-- the pixels of row 2 that a triangle covers
+abbrev pub row_two : Triangle → List ℕ
+row_two t = filter (λ x. covers t (pos x) (pos 2)) (0 ∷ 1 ∷ 2 ∷ 3 ∷ [])

@@ -9,7 +9,10 @@ ghost use Rattle.dri_model.specs.Heaps.{Heap, is_place_for, lowest_place, classe
 ghost use Rattle.dri_model.specs.Words.{Spelled, loaded};
 ghost use Rattle.dri_model.specs.CommandWords.{Buffer};
 ghost use Rattle.dri_model.specs.WordFaults.{HasOneFault};
-ghost use Rattle.dri_model.specs.Examples.{upper_left, lower_right, covered, eight, uses, ages, neighbours};
+ghost use Rattle.std.specs.Prelude.{pos};
+ghost use Rattle.dri_base.specs.Fragments.{shaded};
+ghost use Rattle.dri_base.specs.declared.state.Shade.TheVariants.{Flat, Smooth};
+ghost use Rattle.dri_model.specs.Examples.{upper_left, lower_right, covered, eight, uses, ages, neighbours, three_corners, other_way, depths, opaque, on_row_two, row_two};
 
 /// The heap's rule always finds a run, for as many regions as there are.
 pub fn always_room()
@@ -48,4 +51,13 @@ pub fn worked_heap()
     ensures classes_freed { uses (allocated 8 eight (neighbours 1 2)) ≡ true ∷ true ∷ true ∷ false ∷ true ∷ true ∷ false ∷ true ∷ [] }
     ensures ages_after { (ages (allocated 8 eight (neighbours 1 2)) ≡ 4 ∷ 8 ∷ 8 ∷ 7 ∷ 6 ∷ 4 ∷ 7 ∷ 6 ∷ []) × ((allocated 8 eight (neighbours 1 2)).global ≡ 8) }
     ensures used_again { (ages (touched (neighbours 4 2) eight) ≡ 4 ∷ 2 ∷ 0 ∷ 2 ∷ 7 ∷ 7 ∷ 1 ∷ 6 ∷ []) × ((touched (neighbours 4 2) eight).global ≡ 7) }
+{}
+
+/// Depths and colours between three different corners, whichever way they run, and centres on a horizontal edge.
+pub fn worked_pixels()
+    ensures depths { (depths three_corners ≡ 8 ∷ 24 ∷ 40 ∷ []) × (depths other_way ≡ 8 ∷ 24 ∷ 40 ∷ []) }
+    ensures flat { (shaded Flat three_corners (pos 0) (pos 0) ≡ opaque 0 0 255) × (shaded Flat other_way (pos 0) (pos 0) ≡ opaque 0 0 255) }
+    ensures smooth { shaded Smooth three_corners (pos 1) (pos 0) ≡ opaque 127 95 31 }
+    ensures top { row_two (on_row_two 104) ≡ 0 ∷ 1 ∷ 2 ∷ 3 ∷ [] }
+    ensures bottom { row_two (on_row_two 8) ≡ [] }
 {}
