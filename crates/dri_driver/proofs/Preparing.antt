@@ -143,7 +143,7 @@ module _ (k : ClientState) (a b : ClientSide) (fits : Fits k (value_at a)) (acts
       current = acting_current (value_at a).scene (value_at a).journal good_there before_run k.number (inl (ap (λ (p : Private). p.phase) (sym fits.part) ∙ acts))
 
       used : (u : ℕ) (r : Run) → placed_of k.placed u ≡ Some r → (j : ℕ) → in_run r j ≡ true → h.used j ≡ true
-      used u r is j inside = whole.used k.number u r (ap (λ (p : Private). p.placed u) (sym fits.part) ∙ is) (λ m _. omega (arith, whole.ages m, current.local)) j inside
+      used u r is j inside = whole.used k.number u r (ap (λ (p : Private). p.placed u) (sym fits.part) ∙ is, λ m _. omega (arith, whole.ages m, current.local)) j inside
 
       lost : placed_of l.placed ≡ placed_after (placed_of k.placed) (freed_for k.scene.regions h run.count) t run
       lost = placed.placed ∙ ((λ i u. if u == t then Some run else lose (is_newer (heap i) k.local) (placed_of k.placed u))

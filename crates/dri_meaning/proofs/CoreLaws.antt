@@ -15,7 +15,7 @@ use Rattle.dri_meaning.specs.Solo.{is_swap}
 use Rattle.dri_meaning.specs.Cores.{Core, opening_core, journal_of, entry_of, with_entry}
 use Rattle.dri_meaning.specs.EventTable.{after_event, world_after}
 use Rattle.dri_meaning.specs.CoreRuns.{after_events, IsRun}
-use Rattle.dri_meaning.specs.CoreRuns.{world_of, ConfinedRun, OwnRun, StandsIn, NoSwapIn, SoloLeftRun}
+use Rattle.dri_meaning.specs.CoreRuns.{world_of, ConfinedRun, OwnRun, StandsIn, entry_keeps, NoSwapIn, SoloLeftRun}
 use Rattle.dri_meaning.proofs.Laws.{confined_run}
 use Rattle.dri_meaning.proofs.Stood.{solo_left}
 use Rattle.dri_meaning.proofs.Draws.{own_run}
@@ -45,7 +45,7 @@ own_core s events good run past rest c i e =
     subst (λ w. OwnAt s w c i) (journal_after s past)
     (own_run s (journal_of events) good (journal_is_hold_run s events good run) (journal_of past) (journal_of rest) c i (ap journal_of e ∙ journal-append past (Run c i ∷ rest)))
 
-with_stands : (s : Scene) (n : ℕ) (w : World) (o : Option Entry) (es : List Entry) → (world_after s w o).stamps n ≡ w.stamps n → Stands s n (world_after s w o) es → Stands s n w (with_entry o es)
+with_stands : (s : Scene) (n : ℕ) (w : World) (o : Option Entry) (es : List Entry) → entry_keeps s w o n ≡ true → Stands s n (world_after s w o) es → Stands s n w (with_entry o es)
 with_stands s n w None es same more = more
 with_stands s n w (Some e) es same more = (same, more)
 

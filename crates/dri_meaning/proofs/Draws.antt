@@ -28,6 +28,7 @@ use Rattle.dri_base.specs.declared.colour.Pixel.{Pixel}
 use Rattle.dri_base.specs.Fragments.{Rules, rules_of, fragment, with_texel, textured}
 use Rattle.dri_model.specs.Words.{rules_in, card_image}
 use Rattle.dri_model.specs.Heaps as Heaps
+use Rattle.dri_model.specs.Heaps.{base_of}
 use Rattle.dri_meaning.specs.Solo.{drawn_by, drawn_at, image_at}
 use Rattle.dri_meaning.specs.Worlds.{World, clips_in}
 use Rattle.dri_meaning.specs.EntryTable.{LegalEntry, after_entry}
@@ -59,19 +60,19 @@ texel_same p f wrap s t whole h =
 
 -- with an image that has the texture's bytes the texel is the same
 parts_same : (size : ℕ) (memory : ℕ → ℕ) (mode : TexMode) (wrap : Wrap) (o : Option Texture) (r : Option Heaps.Run) (t : Shape) (x y : ℤ) (c : Rgba) → is_some r ≡ true →
-    ((run : Heaps.Run) → r ≡ Some run → HasBytes memory (run.first * size) (bytes_of o)) → ((p : Texture) → o ≡ Some p → IsWhole p) →
+    ((run : Heaps.Run) → r ≡ Some run → HasBytes memory (base_of size run) (bytes_of o)) → ((p : Texture) → o ≡ Some p → IsWhole p) →
     with_texel mode (card_image memory (bound_at size o r)) wrap t x y c ≡ with_texel mode (given_image o) wrap t x y c
 parts_same size memory mode wrap None r t x y c is has whole = refl
 parts_same size memory mode wrap (Some p) None t x y c is has whole = absurd (true≢false (sym is))
 parts_same size memory Mode_is.Off wrap (Some p) (Some run) t x y c is has whole = refl
 parts_same size memory Mode_is.Replace wrap (Some p) (Some run) t x y c is has whole =
-    ap (λ u. textured Mode_is.Replace u c) (texel_same p (λ n. memory (run.first * size + n)) wrap _ _ (whole p refl) (λ k l. has run refl k l))
+    ap (λ u. textured Mode_is.Replace u c) (texel_same p (λ n. memory (base_of size run + n)) wrap _ _ (whole p refl) (λ k l. has run refl k l))
 parts_same size memory Mode_is.Modulate wrap (Some p) (Some run) t x y c is has whole =
-    ap (λ u. textured Mode_is.Modulate u c) (texel_same p (λ n. memory (run.first * size + n)) wrap _ _ (whole p refl) (λ k l. has run refl k l))
+    ap (λ u. textured Mode_is.Modulate u c) (texel_same p (λ n. memory (base_of size run + n)) wrap _ _ (whole p refl) (λ k l. has run refl k l))
 
 textured_same : (size : ℕ) (memory : ℕ → ℕ) (mode : TexMode) (wrap : Wrap) (textures : List Texture) (placed : ℕ → Option Heaps.Run) (bound : Option ℕ) (t : Shape) (x y : ℤ) (c : Rgba) →
     is_ready_for placed (texture_used mode bound) ≡ true →
-    ((u : ℕ) (run : Heaps.Run) → placed u ≡ Some run → HasBytes memory (run.first * size) (bytes_of (texture_in textures u))) →
+    ((u : ℕ) (run : Heaps.Run) → placed u ≡ Some run → HasBytes memory (base_of size run) (bytes_of (texture_in textures u))) →
     ((u : ℕ) (p : Texture) → texture_in textures u ≡ Some p → IsWhole p) →
     with_texel mode (card_image memory (bound_at size (texture_bound textures bound) (run_of placed bound))) wrap t x y c ≡ with_texel mode (own_image textures bound) wrap t x y c
 textured_same size memory Mode_is.Off wrap textures placed bound t x y c ready has whole = refl
@@ -138,8 +139,8 @@ card_same s w c i t x y under good sound legal can =
     own : w.owner ≡ c + 1
     own = current.owner
 
-    has : (u : ℕ) (run : Heaps.Run) → (w.client c).placed u ≡ Some run → HasBytes w.memory (run.first * s.region_size) (bytes_of (texture_in (textures_of s c) u))
-    has u run placed = (sound.textures.held c u run placed (λ k _. omega (arith, sound.textures.ages k, current.local))).image
+    has : (u : ℕ) (run : Heaps.Run) → (w.client c).placed u ≡ Some run → HasBytes w.memory (base_of s.region_size run) (bytes_of (texture_in (textures_of s c) u))
+    has u run placed = (sound.textures.held c u run (placed, λ k _. omega (arith, sound.textures.ages k, current.local))).image
 
     is_state : (w.client c).state ≡ state_at (commands_of s c) i
     is_state = sound.main.state c ∙ ap (state_at (commands_of s c)) (sym legal.1)

@@ -9,6 +9,7 @@ pub mod Sound
 pub mod Laws
 pub mod Draws
 pub mod FrameNumbers
+pub mod Carried
 pub mod Stood
 pub mod Cores
 pub mod CoreLaws

@@ -46,6 +46,8 @@ pub intact_at : (s : Scene) (w : World) → Sound s w → Intact s w
 intact_at s w sound = record {
   ages = sound.textures.ages;
   locals = sound.textures.locals;
-  used = λ c t run placed fresh. (sound.textures.held c t run placed fresh).used;
-  image = λ c t run placed fresh. (sound.textures.held c t run placed fresh).image;
+  used = λ c t run live. (sound.textures.held c t run live).used;
+  image = λ c t run live. (sound.textures.held c t run live).image;
+  apart = sound.textures.apart;
+  alone = sound.textures.alone;
 }

@@ -1,6 +1,6 @@
 -- Frames that stood.
 use Rattle.std.proofs.Common.{◌≡◌, ◌≢◌, ◌≤◌, ◌+◌, ◌-◌, ℕ, suc, List, [], ◌∷◌, ◌++◌, Bool, true, false, Option, Some, None, arith, refl, sym, ap, ◌∙◌, inl, inr, subst}
-use Rattle.std.specs.Prelude.{◌⊎◌, slice_get, pred, pos, ℤ, nat_lt, ◌-ℤ◌}
+use Rattle.std.specs.Prelude.{◌==◌, ◌⊎◌, slice_get, pred, pos, ℤ, nat_lt, ◌-ℤ◌}
 use Rattle.std.proofs.lemmas.Bool.Decides.{nat_tests}
 use Rattle.std.proofs.lemmas.Bool.{true≢false, and_parts, and_right, cases_eq, false_from_ne_true}
 use Rattle.dri_base.specs.declared.journal.Entry.{Entry}
@@ -17,6 +17,7 @@ use Rattle.dri_base.specs.States.{state_at}
 use Rattle.dri_base.specs.Fragments.{Rules, rules_of}
 use Rattle.dri_base.specs.Texels.{Image}
 use Rattle.dri_meaning.specs.Solo.{drawn_by, blank, solo, image_at}
+use Rattle.dri_meaning.proofs.Carried.{CameFrom, apart_at, came_from, restack_keeps}
 use Rattle.dri_meaning.proofs.Draws.{ran_back}
 use Rattle.dri_meaning.specs.Worlds.{World, opening, clips_in}
 use Rattle.dri_meaning.specs.EntryTable.{LegalEntry, after_entry}
@@ -24,38 +25,26 @@ use Rattle.dri_meaning.specs.Effects.{front_after}
 use Rattle.dri_meaning.specs.Restacks.{next_stack, touched_by, stamps_after, front_painted}
 use Rattle.dri_meaning.specs.Privates.{can_run, can_draw}
 use Rattle.dri_meaning.specs.Runs.{after_entries, LegalEntries, after, HoldRun}
-use Rattle.dri_meaning.specs.Frames.{Stands, IsNoSwap, NoSwap, across, down, SoloLeft}
+use Rattle.dri_meaning.specs.Frames.{Stands, keeps, IsNoSwap, NoSwap, across, down, SoloLeft}
 use Rattle.dri_meaning.specs.Solo.{is_clear, is_swap, IsFrame}
 use Rattle.dri_meaning.proofs.FrameNumbers.{is_frame}
 use Rattle.dri_model.proofs.Touches.{clips_kept, origin_kept, how_many_at}
 use Rattle.dri_meaning.proofs.Sound.{Sound, sound_along, sound_kept, sound_after}
 use Rattle.dri_meaning.proofs.Laws.{back_left, LegalEntries-append, acting_is_current}
 
--- where a window shows
-window_at : (width height : ℕ) (ws : List Window) (n x y : ℕ) → clips width height ws n x y ≡ true → is_window n (top ws x y) ≡ true
-window_at width height ws n x y inside = (and_parts (nat_lt y height) (is_window n (top ws x y)) (and_parts (nat_lt x width) _ inside).1).1
-
-one_window : (n m : ℕ) (o : Option Window) → n ≢ m → is_window n o ≡ true → is_window m o ≡ false
-one_window n m None ne is = refl
-one_window n m (Some w) ne is = grind (arith, nat_tests)
-
--- no two windows show at one pixel
-pub apart_at : (s : Scene) (w : World) (c d x y : ℕ) → window_of s c ≢ window_of s d → clips_in s w c x y ≡ true → clips_in s w d x y ≡ false
-apart_at s w c d x y ne inside =
-    and_right (nat_lt x s.width) _ (and_right (nat_lt y s.height) _ (one_window (window_of s c) (window_of s d) (top w.stack x y) ne (window_at s.width s.height w.stack (window_of s c) x y inside)))
-
 -- what client c has drawn since the clear at place first, with n commands behind it
 record Drawn (s : Scene) (c first n : ℕ) (w : World) : Type 0 where
   pub at : (w.client c).place ≡ first + n + 1
   pub back : (x y : ℕ) → clips_in s w c x y ≡ true → w.back x y ≡ solo (script_of s c) first n (across s w c x) (down s w c y)
 
--- a new stack that keeps the window's stamp keeps its clips and its origin
-restack_keeps : (s : Scene) (w : World) (new : List Window) (n : ℕ) → w.stamps n ≤ w.counter → stamps_after s w new n ≡ w.stamps n → touched_by s w new n ≡ false
-restack_keeps s w new n le e = by_touch (touched_by s w new n) refl
-  where
-    by_touch : (b : Bool) → touched_by s w new n ≡ b → touched_by s w new n ≡ false
-    by_touch true t = absurd (grind (arith, how_many_at (touched_by s w new) n t))
-    by_touch false t = t
+-- the same in a world where each pixel of the client's window came from one with its drawing
+drawn_came : (s : Scene) (w v : World) (c first n : ℕ) → (v.client c).place ≡ (w.client c).place →
+    ((x y : ℕ) → clips_in s v c x y ≡ true → CameFrom s w v.stack v.front v.back (window_of s c) x y) → Drawn s c first n w → Drawn s c first n v
+drawn_came s w v c first n place came drawn = record {
+  at = place ∙ drawn.at;
+  back = λ x y inside. let p = came x y inside in p.back ∙ drawn.back p.column p.row p.inside
+      ∙ ap (λ a. solo (script_of s c) first n a (down s w c p.row)) (sym p.across) ∙ ap (solo (script_of s c) first n (across s v c x)) (sym p.down);
+}
 
 -- a client with a command has a script
 has_script : (cs : List Command) (i : ℕ) → is_clear (slice_get cs i) ≡ true → cs ≢ []
@@ -94,17 +83,13 @@ drawn_first s w c first good inv legal is = record {
   back = λ x y inside. ran_back s w c first x y good inv legal inside ∙ drawn_clear (rules_of (state_at (commands_of s c) first)) (image_at (script_of s c) first) (command_at s c first) (across s w c x) (down s w c y) (w.back x y) is;
 }
 
--- a pixel's value by the client's own coordinates is so in a stack that leaves the window
-restack_at : {A : Type 0} (s : Scene) (w : World) (new : List Window) (c x y : ℕ) (plane : A) (value : ℤ → ℤ → A) → touched_by s w new (window_of s c) ≡ false →
-    (clips_in s w c x y ≡ true → plane ≡ value (across s w c x) (down s w c y)) →
-    clips s.width s.height new (window_of s c) x y ≡ true → plane ≡ value (pos x -ℤ (origin new (window_of s c)).0) (pos y -ℤ (origin new (window_of s c)).1)
-restack_at s w new c x y plane value untouched before inside =
-    rw (origin_kept s.width s.height w.stack new (window_of s c) untouched)
-    (before (sym (clips_kept s.width s.height w.stack new (window_of s c) x y untouched) ∙ inside))
+-- where a change or a death keeps the stamp, the window is untouched
+stamp_untouched : (s : Scene) (w : World) (new : List Window) (c : ℕ) → IsWellFormed s → Sound s w → (stamps_after s w new (window_of s c) == w.stamps (window_of s c)) ≡ true → touched_by s w new (window_of s c) ≡ false
+stamp_untouched s w new c good inv keeps = restack_keeps s w new (window_of s c) (inv.main.counted (window_of s c) (good.few c)) (grind (arith, nat_tests))
 
 -- one entry on
 drawn_step : (s : Scene) (w : World) (e : Entry) (c first n : ℕ) → IsWellFormed s → Sound s w → LegalEntry s w e → is_clear (slice_get (commands_of s c) (pred first)) ≡ true →
-    (after_entry s w e).stamps (window_of s c) ≡ w.stamps (window_of s c) → Drawn s c first n w → (m : ℕ) × Drawn s c first m (after_entry s w e)
+    keeps s w e (window_of s c) ≡ true → Drawn s c first n w → (m : ℕ) × Drawn s c first m (after_entry s w e)
 drawn_step s w (Light d) c first n good inv legal is keeps drawn = (n, record { at = grind (arith, nat_tests, drawn.at); back = drawn.back })
 drawn_step s w (Kernel d found) c first n good inv legal is keeps drawn = (n, record { at = grind (arith, nat_tests, drawn.at); back = drawn.back })
 drawn_step s w (Stale d) c first n good inv legal is keeps drawn = (n, record { at = grind (arith, nat_tests, drawn.at); back = drawn.back })
@@ -113,15 +98,12 @@ drawn_step s w (Place d t begin count) c first n good inv legal is keeps drawn =
 drawn_step s w (Leave d) c first n good inv legal is keeps drawn = (n, record { at = grind (arith, nat_tests, drawn.at); back = drawn.back })
 drawn_step s w (Info d) c first n good inv legal is keeps drawn = (n, record { at = grind (arith, nat_tests, drawn.at); back = drawn.back })
 drawn_step s w (Change i) c first n good inv legal is keeps drawn =
-    (n, record { at = drawn.at; back = λ x y. restack_at s w (next_stack s w) c x y (w.back x y) (solo (script_of s c) first n) untouched (drawn.back x y) })
-  where
-    untouched : touched_by s w (next_stack s w) (window_of s c) ≡ false
-    untouched = restack_keeps s w (next_stack s w) (window_of s c) (inv.main.counted (window_of s c) (good.few c)) keeps
+    (n, drawn_came s w (after_entry s w (Change i)) c first n refl (λ x y. came_from s w (next_stack s w) (window_of s c) x y (stamp_untouched s w (next_stack s w) c good inv keeps)) drawn)
 drawn_step s w (Gone d) c first n good inv legal is keeps drawn =
-    (n, record { at = grind (arith, nat_tests, drawn.at); back = λ x y. restack_at s w (without_owner d w.stack) c x y (w.back x y) (solo (script_of s c) first n) untouched (drawn.back x y) })
+    (n, drawn_came s w (after_entry s w (Gone d)) c first n place (λ x y. came_from s w (without_owner d w.stack) (window_of s c) x y (stamp_untouched s w (without_owner d w.stack) c good inv keeps)) drawn)
   where
-    untouched : touched_by s w (without_owner d w.stack) (window_of s c) ≡ false
-    untouched = restack_keeps s w (without_owner d w.stack) (window_of s c) (inv.main.counted (window_of s c) (good.few c)) keeps
+    place : ((after_entry s w (Gone d)).client c).place ≡ (w.client c).place
+    place = grind (arith, nat_tests)
 drawn_step s w (Run d i) c first n good inv legal is keeps drawn = by_client (cases_eq d c)
   where
     by_client : (d ≡ c) ⊎ (d ≡ c → ⊥) → (m : ℕ) × Drawn s c first m (after_entry s w (Run d i))
@@ -177,27 +159,15 @@ front_left w copy (Some Yield) x y noswap = refl
 front_left w copy (Some Die) x y noswap = refl
 front_left w copy None x y noswap = refl
 
-tops_same : (n : ℕ) (a b : Option Window) → is_window n a ≡ true → is_window n b ≡ true → same_top a b ≡ true
-tops_same n None b ia ib = absurd (true≢false (sym ia))
-tops_same n (Some a) None ia ib = absurd (true≢false (sym ib))
-tops_same n (Some a) (Some b) ia ib = grind (arith, nat_tests)
-
--- what is shown stays under a new stack that leaves the window
-shows_restacked : (s : Scene) (w : World) (new : List Window) (c first last : ℕ) → IsWellFormed s → Sound s w → stamps_after s w new (window_of s c) ≡ w.stamps (window_of s c) → ShowsBetween s c first last w →
-    (x y : ℕ) → clips s.width s.height new (window_of s c) x y ≡ true →
-    front_painted s w new x y ≡ (solo (script_of s c) first (last - suc first) (pos x -ℤ (origin new (window_of s c)).0) (pos y -ℤ (origin new (window_of s c)).1)).colour
-shows_restacked s w new c first last good inv keeps shows x y inside =
-    rw (tops_same (window_of s c) (top w.stack x y) (top new x y) (window_at s.width s.height w.stack (window_of s c) x y (sym kept_clip ∙ inside)) (window_at s.width s.height new (window_of s c) x y inside))
-    (restack_at s w new c x y (w.front x y) (λ a b. (solo (script_of s c) first (last - suc first) a b).colour) untouched (shows x y) inside)
-  where
-    untouched : touched_by s w new (window_of s c) ≡ false
-    untouched = restack_keeps s w new (window_of s c) (inv.main.counted (window_of s c) (good.few c)) keeps
-
-    kept_clip : clips s.width s.height new (window_of s c) x y ≡ clips_in s w c x y
-    kept_clip = clips_kept s.width s.height w.stack new (window_of s c) x y untouched
+-- what is shown stays where each pixel of the client's window came from one that showed it
+shows_came : (s : Scene) (w v : World) (c first last : ℕ) → ((x y : ℕ) → clips_in s v c x y ≡ true → CameFrom s w v.stack v.front v.back (window_of s c) x y) →
+    ShowsBetween s c first last w → ShowsBetween s c first last v
+shows_came s w v c first last came shows x y inside = let p = came x y inside in p.front ∙ shows p.column p.row p.inside
+    ∙ ap (λ a. (solo (script_of s c) first (last - suc first) a (down s w c p.row)).colour) (sym p.across)
+    ∙ ap (λ b. (solo (script_of s c) first (last - suc first) (across s v c x) b).colour) (sym p.down)
 
 shows_step : (s : Scene) (w : World) (e : Entry) (c first last : ℕ) → IsWellFormed s → Sound s w → LegalEntry s w e → is_clear (slice_get (commands_of s c) (pred first)) ≡ true →
-    (after_entry s w e).stamps (window_of s c) ≡ w.stamps (window_of s c) → IsNoSwap s c e → ShowsBetween s c first last w → ShowsBetween s c first last (after_entry s w e)
+    keeps s w e (window_of s c) ≡ true → IsNoSwap s c e → ShowsBetween s c first last w → ShowsBetween s c first last (after_entry s w e)
 shows_step s w (Light d) c first last good inv legal is keeps noswap shows = shows
 shows_step s w (Kernel d found) c first last good inv legal is keeps noswap shows = shows
 shows_step s w (Stale d) c first last good inv legal is keeps noswap shows = shows
@@ -205,8 +175,10 @@ shows_step s w (Emit d groups) c first last good inv legal is keeps noswap shows
 shows_step s w (Place d t begin count) c first last good inv legal is keeps noswap shows = shows
 shows_step s w (Leave d) c first last good inv legal is keeps noswap shows = shows
 shows_step s w (Info d) c first last good inv legal is keeps noswap shows = shows
-shows_step s w (Change i) c first last good inv legal is keeps noswap shows = shows_restacked s w (next_stack s w) c first last good inv keeps shows
-shows_step s w (Gone d) c first last good inv legal is keeps noswap shows = shows_restacked s w (without_owner d w.stack) c first last good inv keeps shows
+shows_step s w (Change i) c first last good inv legal is keeps noswap shows =
+    shows_came s w (after_entry s w (Change i)) c first last (λ x y. came_from s w (next_stack s w) (window_of s c) x y (stamp_untouched s w (next_stack s w) c good inv keeps)) shows
+shows_step s w (Gone d) c first last good inv legal is keeps noswap shows =
+    shows_came s w (after_entry s w (Gone d)) c first last (λ x y. came_from s w (without_owner d w.stack) (window_of s c) x y (stamp_untouched s w (without_owner d w.stack) c good inv keeps)) shows
 shows_step s w (Run d i) c first last good inv legal is keeps noswap shows = λ x y inside. front_left w (w.client d).copy (command_at s d i) x y (by_client x y inside (cases_eq d c)) ∙ shows x y inside
   where
     by_client : (x y : ℕ) → clips_in s w c x y ≡ true → (d ≡ c) ⊎ (d ≡ c → ⊥) → (is_swap (command_at s d i) ≡ false) ⊎ ((w.client d).copy x y ≡ false)

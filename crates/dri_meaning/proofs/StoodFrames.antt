@@ -1,5 +1,5 @@
 -- The tally counts the frames that stood.
-use Rattle.std.proofs.Common.{◌≡◌, ◌<◌, ◌≤◌, ◌+◌, ℕ, zero, suc, List, [], ◌∷◌, ◌++◌, true, false, not, Option, Some, None, arith, refl, sym, ap, ◌∙◌, inl, inr, subst}
+use Rattle.std.proofs.Common.{◌≡◌, ◌<◌, ◌≤◌, ◌+◌, ℕ, zero, suc, List, [], ◌∷◌, ◌++◌, Bool, true, false, not, Option, Some, None, arith, refl, sym, ap, ◌∙◌, inl, inr, subst}
 use Rattle.std.specs.Prelude.{◌==◌, ◌⊎◌, if◌then◌else◌, Contains}
 use Rattle.std.specs.List.{All}
 use Rattle.std.proofs.lemmas.Bool.{true≢false, cases_eq}
@@ -14,7 +14,7 @@ use Rattle.dri_base.specs.declared.scene.Scene.{Scene}
 use Rattle.dri_base.specs.Scenes.{commands_of, window_of, command_at}
 use Rattle.dri_meaning.specs.Effects.{run_by}
 use Rattle.dri_meaning.specs.EntryTable.{LegalEntry, after_entry}
-use Rattle.dri_meaning.specs.Frames.{Stands, FrameStood, Counts}
+use Rattle.dri_meaning.specs.Frames.{Stands, FrameStood, Counts, keeps}
 use Rattle.dri_meaning.specs.Reports.{Standing, NoClear, Stood, Cut, Tally, standing_after, cut_by, counts_stood, tally_after, tally_from, tally}
 use Rattle.dri_meaning.specs.Runs.{after_entries, LegalEntries, after, HoldRun}
 use Rattle.dri_meaning.specs.Solo.{is_clear, is_swap, swaps_before, IsFrame}
@@ -87,11 +87,8 @@ stays_by (Some Command_is.Yield) e = refl
 stays_by (Some Command_is.Die) e = refl
 stays_by None e = refl
 
-pub stays_uncut : (st : Standing) (a b : ℕ) → b ≡ a → st ≡ Stood → cut_by (not (a == b)) st ≡ Stood
-stays_uncut st a b e h = rw (e, same, h) refl
-  where
-    same : (a == a) ≡ true
-    same = grind (arith, nat_tests)
+pub stays_uncut : (st : Standing) (keeps : Bool) → keeps ≡ true → st ≡ Stood → cut_by (not keeps) st ≡ Stood
+stays_uncut st keeps k h = rw (k, h) refl
 
 module _ (s : Scene) (c k first last : ℕ) (f : IsFrame (commands_of s c) k first last) where
   pub stays : (w : World) (t : Tally) (es : List Entry) → t.standing c ≡ Stood → Stands s (window_of s c) w es → LegalEntries s w es → first < (w.client c).place → ((after_entries s w es).client c).place ≤ last → (tally_from s w t es).standing c ≡ Stood
@@ -99,7 +96,7 @@ module _ (s : Scene) (c k first last : ℕ) (f : IsFrame (commands_of s c) k fir
   stays w t (e ∷ es) stood stands legal after_first upto =
       stays (after_entry s w e) (tally_after s w e t) es (by_entry e stands.0 legal.0 (omega (arith, upto, places_on s (after_entry s w e) es c legal.1))) stands.1 legal.1 (omega (arith, after_first, place_on s w e c legal.0)) upto
     where
-      by_entry : (e : Entry) → (after_entry s w e).stamps (window_of s c) ≡ w.stamps (window_of s c) → LegalEntry s w e → ((after_entry s w e).client c).place ≤ last → (tally_after s w e t).standing c ≡ Stood
+      by_entry : (e : Entry) → keeps s w e (window_of s c) ≡ true → LegalEntry s w e → ((after_entry s w e).client c).place ≤ last → (tally_after s w e t).standing c ≡ Stood
       by_entry (Light d) same at le = stood
       by_entry (Kernel d found) same at le = stood
       by_entry (Stale d) same at le = stood
@@ -107,8 +104,8 @@ module _ (s : Scene) (c k first last : ℕ) (f : IsFrame (commands_of s c) k fir
       by_entry (Place d u first n) same at le = stood
       by_entry (Leave d) same at le = stood
       by_entry (Info d) same at le = stood
-      by_entry (Change i) same at le = stays_uncut (t.standing c) (w.stamps (window_of s c)) _ same stood
-      by_entry (Gone d) same at le = stays_uncut (t.standing c) (w.stamps (window_of s c)) _ same stood
+      by_entry (Change i) same at le = stays_uncut (t.standing c) (keeps s w (Change i) (window_of s c)) same stood
+      by_entry (Gone d) same at le = stays_uncut (t.standing c) (keeps s w (Gone d) (window_of s c)) same stood
       by_entry (Run d i) same at le = by_client (cases_eq c d)
         where
           by_client : (c ≡ d) ⊎ (c ≡ d → ⊥) → (if c == d then standing_after (command_at s d i) (t.standing c) else t.standing c) ≡ Stood

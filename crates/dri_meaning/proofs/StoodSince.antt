@@ -12,7 +12,7 @@ use Rattle.dri_base.specs.declared.scene.Scene.{Scene}
 use Rattle.dri_base.specs.Scenes.{commands_of, window_of, command_at}
 use Rattle.dri_meaning.specs.Effects.{run_by, placed_by, taken_in}
 use Rattle.dri_meaning.specs.EntryTable.{LegalEntry, after_entry}
-use Rattle.dri_meaning.specs.Frames.{Stands}
+use Rattle.dri_meaning.specs.Frames.{Stands, keeps}
 use Rattle.dri_meaning.specs.Privates.{Private}
 use Rattle.dri_meaning.specs.Reports.{Standing, NoClear, Stood, Cut, Tally, standing_after, cut_by, tally_after}
 use Rattle.dri_meaning.specs.Runs.{after_entries, after}
@@ -22,8 +22,12 @@ use Rattle.dri_meaning.proofs.Parts.{put_keeps, put_here, put_there}
 use Rattle.dri_meaning.proofs.Laws.{after_entries-append}
 use Rattle.dri_meaning.proofs.OpenFrames.{IsOpen, open_on, Tracked}
 
--- entries that gave no new stamp, and one more
-pub stands_push : (s : Scene) (n : ℕ) (w : World) (es : List Entry) (e : Entry) → Stands s n w es → (after_entry s (after_entries s w es) e).stamps n ≡ (after_entries s w es).stamps n → Stands s n w (es ++ e ∷ [])
+-- an entry that leaves the stamp keeps what stands
+pub stamp_keeps : (s : Scene) (w : World) (e : Entry) (n : ℕ) → (after_entry s w e).stamps n ≡ w.stamps n → keeps s w e n ≡ true
+stamp_keeps s w e n same = grind (arith, nat_tests)
+
+-- entries that keep what stands, and one more
+pub stands_push : (s : Scene) (n : ℕ) (w : World) (es : List Entry) (e : Entry) → Stands s n w es → keeps s (after_entries s w es) e n ≡ true → Stands s n w (es ++ e ∷ [])
 stands_push s n w [] e stands same = (same, tt)
 stands_push s n w (x ∷ es) e stands same = (stands.0, stands_push s n (after_entry s w x) es e stands.1 same)
 
@@ -39,8 +43,8 @@ pub record StoodSince (s : Scene) (past : List Entry) (w : World) (c : ℕ) : Ty
 abbrev pub History : Scene → List Entry → World → Tally → Type 0
 History s past w t = (c : ℕ) → t.standing c ≡ Stood → StoodSince s past w c
 
--- one more entry that gives no new stamp
-pub stood_on : (s : Scene) (past : List Entry) (w : World) (e : Entry) (c : ℕ) → after s past ≡ w → StoodSince s past w c → (after_entry s w e).stamps (window_of s c) ≡ w.stamps (window_of s c) →
+-- one more entry that keeps what stands
+pub stood_on : (s : Scene) (past : List Entry) (w : World) (e : Entry) (c : ℕ) → after s past ≡ w → StoodSince s past w c → keeps s w e (window_of s c) ≡ true →
     ((first : ℕ) → IsOpen (commands_of s c) first (w.client c).place → IsOpen (commands_of s c) first ((after_entry s w e).client c).place) → StoodSince s (past ++ e ∷ []) (after_entry s w e) c
 stood_on s past w e c here old same open_too = record {
   first = old.first;
@@ -60,36 +64,24 @@ stood_on s past w e c here old same open_too = record {
 pub place_same : (s : Scene) (w : World) (c : ℕ) (p : Private) (d : ℕ) → p.place ≡ (w.client c).place → (first : ℕ) → IsOpen (commands_of s d) first (w.client d).place → IsOpen (commands_of s d) first (put w.client c p d).place
 place_same s w c p d e first o = put_keeps (λ k q. IsOpen (commands_of s k) first (w.client k).place → IsOpen (commands_of s k) first q.place) w.client c p d (λ x. rw e x) (λ x. x) o
 
-pub cut_stood : (st : Standing) (a b : ℕ) → cut_by (not (a == b)) st ≡ Stood → (b ≡ a) × (st ≡ Stood)
-cut_stood st a b e = by_test (a == b) refl st e
-  where
-    no_cut : Cut ≡ Stood → ⊥
-    no_cut e = grind arith
-
-    no_clear : NoClear ≡ Stood → ⊥
-    no_clear e = grind arith
-
-    same : (a == b) ≡ true → b ≡ a
-    same h = grind (arith, nat_tests)
-
-    by_test : (x : Bool) → (a == b) ≡ x → (st : Standing) → cut_by (not (a == b)) st ≡ Stood → (b ≡ a) × (st ≡ Stood)
-    by_test true h st e = (same h, rw h at e)
-    by_test false h NoClear e = absurd (no_clear (rw h at e))
-    by_test false h Stood e = absurd (no_cut (rw h at e))
-    by_test false h Cut e = absurd (no_cut (rw h at e))
+pub cut_stood : (st : Standing) (keeps : Bool) → cut_by (not keeps) st ≡ Stood → (keeps ≡ true) × (st ≡ Stood)
+cut_stood st true e = (refl, e)
+cut_stood NoClear false e = absurd (grind arith)
+cut_stood Stood false e = absurd (grind arith)
+cut_stood Cut false e = absurd (grind arith)
 
 pub history_on : (s : Scene) (past : List Entry) (w : World) (t : Tally) (e : Entry) → after s past ≡ w → LegalEntry s w e → Tracked s w t → History s past w t → History s (past ++ e ∷ []) (after_entry s w e) (tally_after s w e t)
-history_on s past w t (Light c) here legal tracked old d h = stood_on s past w (Light c) d here (old d h) refl (place_same s w c _ d refl)
-history_on s past w t (Kernel c found) here legal tracked old d h = stood_on s past w (Kernel c found) d here (old d h) refl (place_same s w c (taken_in s w c) d refl)
-history_on s past w t (Stale c) here legal tracked old d h = stood_on s past w (Stale c) d here (old d h) refl (place_same s w c _ d refl)
-history_on s past w t (Emit c groups) here legal tracked old d h = stood_on s past w (Emit c groups) d here (old d h) refl (place_same s w c _ d refl)
-history_on s past w t (Place c u first n) here legal tracked old d h = stood_on s past w (Place c u first n) d here (old d h) refl (place_same s w c (placed_by s w c u first n) d refl)
-history_on s past w t (Leave c) here legal tracked old d h = stood_on s past w (Leave c) d here (old d h) refl (place_same s w c _ d refl)
-history_on s past w t (Info c) here legal tracked old d h = stood_on s past w (Info c) d here (old d h) refl (place_same s w c _ d refl)
+history_on s past w t (Light c) here legal tracked old d h = stood_on s past w (Light c) d here (old d h) (stamp_keeps s w (Light c) (window_of s d) refl) (place_same s w c _ d refl)
+history_on s past w t (Kernel c found) here legal tracked old d h = stood_on s past w (Kernel c found) d here (old d h) (stamp_keeps s w (Kernel c found) (window_of s d) refl) (place_same s w c (taken_in s w c) d refl)
+history_on s past w t (Stale c) here legal tracked old d h = stood_on s past w (Stale c) d here (old d h) (stamp_keeps s w (Stale c) (window_of s d) refl) (place_same s w c _ d refl)
+history_on s past w t (Emit c groups) here legal tracked old d h = stood_on s past w (Emit c groups) d here (old d h) (stamp_keeps s w (Emit c groups) (window_of s d) refl) (place_same s w c _ d refl)
+history_on s past w t (Place c u first n) here legal tracked old d h = stood_on s past w (Place c u first n) d here (old d h) (stamp_keeps s w (Place c u first n) (window_of s d) refl) (place_same s w c (placed_by s w c u first n) d refl)
+history_on s past w t (Leave c) here legal tracked old d h = stood_on s past w (Leave c) d here (old d h) (stamp_keeps s w (Leave c) (window_of s d) refl) (place_same s w c _ d refl)
+history_on s past w t (Info c) here legal tracked old d h = stood_on s past w (Info c) d here (old d h) (stamp_keeps s w (Info c) (window_of s d) refl) (place_same s w c _ d refl)
 history_on s past w t (Change i) here legal tracked old d h =
-    let was = cut_stood (t.standing d) (w.stamps (window_of s d)) _ h in stood_on s past w (Change i) d here (old d was.1) was.0 (λ first o. o)
+    let was = cut_stood (t.standing d) (keeps s w (Change i) (window_of s d)) h in stood_on s past w (Change i) d here (old d was.1) was.0 (λ first o. o)
 history_on s past w t (Gone c) here legal tracked old d h =
-    let was = cut_stood (t.standing d) (w.stamps (window_of s d)) _ h in stood_on s past w (Gone c) d here (old d was.1) was.0 (place_same s w c _ d refl)
+    let was = cut_stood (t.standing d) (keeps s w (Gone c) (window_of s d)) h in stood_on s past w (Gone c) d here (old d was.1) was.0 (place_same s w c _ d refl)
 history_on s past w t (Run c i) here legal tracked old d h = by_client (cases_eq d c)
   where
     place : ((after_entry s w (Run c i)).client c).place ≡ i + 1
@@ -114,7 +106,7 @@ history_on s past w t (Run c i) here legal tracked old d h = by_client (cases_eq
 
     -- behind a command that is neither clear nor swap it stands as before
     goes_on : is_clear (slice_get (commands_of s c) (pred i)) ≡ false → is_swap (slice_get (commands_of s c) (pred i)) ≡ false → t.standing c ≡ Stood → StoodSince s (past ++ Run c i ∷ []) (after_entry s w (Run c i)) c
-    goes_on no_clear no_swap stood = stood_on s past w (Run c i) c here (old c stood) refl
+    goes_on no_clear no_swap stood = stood_on s past w (Run c i) c here (old c stood) (stamp_keeps s w (Run c i) (window_of s c) refl)
         (λ first o. rw place (open_on (commands_of s c) first i no_clear no_swap (subst (IsOpen (commands_of s c) first) (sym legal.1) o)))
 
     by_command : (command : Option Command) → slice_get (commands_of s c) (pred i) ≡ command → standing_after command (t.standing c) ≡ Stood → StoodSince s (past ++ Run c i ∷ []) (after_entry s w (Run c i)) c
@@ -131,7 +123,7 @@ history_on s past w t (Run c i) here legal tracked old d h = by_client (cases_eq
 
     by_client : (d ≡ c) ⊎ (d ≡ c → ⊥) → StoodSince s (past ++ Run c i ∷ []) (after_entry s w (Run c i)) d
     by_client (inl e) = subst (StoodSince s (past ++ Run c i ∷ []) (after_entry s w (Run c i))) (sym e) (own (subst (λ k. (tally_after s w (Run c i) t).standing k ≡ Stood) e h))
-    by_client (inr ne) = stood_on s past w (Run c i) d here (old d (rw other at h)) refl (λ first o. rw (put_there w.client c (run_by s w c i) d ne) o)
+    by_client (inr ne) = stood_on s past w (Run c i) d here (old d (rw other at h)) (stamp_keeps s w (Run c i) (window_of s d) refl) (λ first o. rw (put_there w.client c (run_by s w c i) d ne) o)
       where
         other : (d == c) ≡ false
         other = grind (arith, nat_tests)

@@ -1,5 +1,5 @@
 -- Triangles and places keep placed textures intact.
-use Rattle.std.proofs.Common.{◌≡◌, ◌<◌, ◌≤◌, ◌+◌, ◌-◌, ◌*◌, ◌/◌, ℕ, suc, List, length, get_or, Bool, true, false, not, Option, Some, None, arith, refl, sym, ◌∙◌, inl, inr, subst}
+use Rattle.std.proofs.Common.{◌≡◌, ◌<◌, ◌≤◌, ◌+◌, ◌-◌, ◌/◌, ℕ, suc, List, length, get_or, Bool, true, false, not, Option, Some, None, arith, refl, sym, ◌∙◌, inl, inr, subst}
 use Rattle.std.specs.Prelude.{◌⊎◌, ◌==◌, ◌||◌, ◌&&◌, nat_lt, nat_le, if◌then◌else◌}
 use Rattle.std.proofs.lemmas.Bool.Decides.{nat_tests}
 use Rattle.std.proofs.lemmas.Bool.{true≢false, cases_eq, and_parts, false_from_ne_true}
@@ -11,15 +11,16 @@ use Rattle.dri_base.proofs.RangeLemmas.{IsWellFormed}
 use Rattle.dri_base.specs.Scenes.{command_at, textures_of, bytes_of, regions_needed}
 use Rattle.dri_base.specs.Texels.{texture_in}
 use Rattle.dri_model.specs.Heaps as Heaps
-use Rattle.dri_model.specs.Heaps.{Heap, in_run, any_in, lose, is_newer, is_oldest, is_room, fits, lowest_place, classes_for, is_place_for, freed_for, age_freed, allocated, touched, uploaded}
-use Rattle.dri_meaning.specs.Worlds.{World}
+use Rattle.dri_model.specs.Heaps.{Heap, base_of, in_run, any_in, lose, is_newer, is_oldest, is_room, fits, lowest_place, classes_for, is_place_for, freed_for, age_freed, allocated, touched, uploaded}
+use Rattle.dri_meaning.specs.Worlds.{World, put}
 use Rattle.dri_meaning.specs.Privates.{Private, used_run}
 use Rattle.dri_meaning.specs.EntryTable.{LegalEntry, after_entry}
 use Rattle.dri_meaning.specs.Effects.{run_by, placed_by, run_at, heap_after, local_after}
 use Rattle.dri_model.proofs.Counts.{none_from}
 use Rattle.dri_meaning.proofs.Invariant.{Invariant, is_acting, acting_holds}
-use Rattle.dri_meaning.proofs.Parts.{put_keeps}
-use Rattle.dri_meaning.proofs.Textures.{put_cases, Held, HeldBy, Textures, some_run, in_bounds, kept_one, byte_in_run}
+use Rattle.dri_meaning.proofs.Parts.{put_here, put_keeps, put_there}
+use Rattle.dri_meaning.specs.Runs.{HasLive, IsLiveAt}
+use Rattle.dri_meaning.proofs.Textures.{put_cases, ApartIn, Held, HeldBy, Textures, alone_put, some_run, in_bounds, kept_one, byte_in_run}
 
 -- what a command does to the heap
 pub record Grown (h new : Heap) : Type 0 where
@@ -74,8 +75,12 @@ ran s w c i inv tex legal = record {
   acting_local = λ d. put_cases (λ k q. is_acting q.phase ≡ true → q.local ≡ new.global) w.client c (run_by s w c i) d (λ h. local) (λ ne h. absurd (ne (alone s w c d inv acts h)));
   light_local = λ d none. absurd (not_free s w c inv acts none);
   held = λ d. put_keeps (HeldBy s new w.memory) w.client c (run_by s w c i) d
-      (λ t run placed fresh. on (tex.held c t run placed (λ k _. omega (arith, tex.ages k, was))))
-      (λ t run placed fresh. on (tex.held d t run placed (λ k i. omega (arith, g.age k, fresh k i))));
+      (λ t run live. on (tex.held c t run (own_live t run live)))
+      (λ t run live. on (tex.held d t run (was_live d t run live)));
+  apart = λ d. put_keeps (λ k q. ApartIn new q) w.client c (run_by s w c i) d
+      (λ t u k a b one two. tex.apart c t u k a b (own_live t a one) (own_live u b two))
+      (λ t u k a b one two. tex.apart d t u k a b (was_live d t a one) (was_live d u b two));
+  alone = alone_put w.heap new w.client c (run_by s w c i) (λ k x. (x.0, x.1, own_live x.0 x.1 x.2, x.3)) (λ d k x. (x.0, x.1, was_live d x.0 x.1 x.2, x.3)) tex.alone;
 }
   where
     new : Heap
@@ -92,6 +97,12 @@ ran s w c i inv tex legal = record {
 
     local : (run_by s w c i).local ≡ new.global
     local = local_grown w.heap (used_run (w.client c)) (command_at s c i) (w.client c).local was
+
+    own_live : (t : ℕ) (run : Heaps.Run) → IsLiveAt new (run_by s w c i) t run → IsLiveAt w.heap (w.client c) t run
+    own_live t run live = (live.0, λ k _. omega (arith, tex.ages k, was))
+
+    was_live : (d t : ℕ) (run : Heaps.Run) → IsLiveAt new (w.client d) t run → IsLiveAt w.heap (w.client d) t run
+    was_live d t run live = (live.0, λ k i. omega (arith, g.age k, live.1 k i))
 
     on : {d t : ℕ} {run : Heaps.Run} → Held s w.heap w.memory d t run → Held s new w.memory d t run
     on old = record { count = old.count; used = λ k i. g.used k ∙ old.used k i; image = old.image }
@@ -123,7 +134,11 @@ place s w c t first count good inv tex legal = record {
   locals = λ d. put_keeps (λ k q. q.local ≤ new.global) w.client c part d (omega arith) (omega (arith, tex.locals d, low));
   acting_local = λ d. put_cases (λ k q. is_acting q.phase ≡ true → q.local ≡ new.global) w.client c part d (λ h. refl) (λ ne h. absurd (ne (alone s w c d inv acts h)));
   light_local = λ d none. absurd (not_free s w c inv acts none);
-  held = λ d. put_cases (HeldBy s new memory) w.client c part d (λ u other placed fresh. here u other (cases_eq u t) placed) (λ ne. there d);
+  held = λ d. put_cases (HeldBy s new memory) w.client c part d (λ u other live. here u other (cases_eq u t) live.0) (λ ne. there d);
+  apart = λ d. put_cases (λ k q. ApartIn new q) w.client c part d
+      (λ u v k a b one two i j. own_apart u v k a b (cases_eq u t) (cases_eq v t) one.0 two.0 i j)
+      (λ ne u v k a b one two. tex.apart d u v k a b (was_live d u a one) (was_live d v b two));
+  alone = λ d e k one two. still_alone d e k (cases_eq d c) (cases_eq e c) one two;
 }
   where
     run : Heaps.Run
@@ -139,7 +154,7 @@ place s w c t first count good inv tex legal = record {
     bytes = bytes_of (texture_in (textures_of s c) t)
 
     memory : ℕ → ℕ
-    memory = uploaded w.memory (first * s.region_size) bytes
+    memory = uploaded w.memory (base_of s.region_size run) bytes
 
     freed : ℕ → Bool
     freed = freed_for s.regions w.heap count
@@ -179,28 +194,28 @@ place s w c t first count good inv tex legal = record {
         its : List ℕ
         its = bytes_of (texture_in (textures_of s d) u)
 
-        inside : (n : ℕ) → n < length its → in_run other ((other.first * s.region_size + n) / s.region_size) ≡ true
-        inside n lt = subst (λ k. in_run (run_at other.first k) ((other.first * s.region_size + n) / s.region_size) ≡ true) (sym old.count) (byte_in_run s.region_size other.first (length its) n good.sized lt)
+        inside : (n : ℕ) → n < length its → in_run other ((base_of s.region_size other + n) / s.region_size) ≡ true
+        inside n lt = subst (λ k. in_run (run_at other.first k) ((base_of s.region_size other + n) / s.region_size) ≡ true) (sym old.count) (byte_in_run s.region_size other.first (length its) n good.sized lt)
 
-        apart : (n : ℕ) → n < length its → (nat_le (first * s.region_size) (other.first * s.region_size + n) && nat_lt (other.first * s.region_size + n) (first * s.region_size + length bytes)) ≡ true → ⊥
-        apart n lt e = true≢false (sym in_it ∙ (out ((other.first * s.region_size + n) / s.region_size) (inside n lt)).0)
+        apart : (n : ℕ) → n < length its → (nat_le (base_of s.region_size run) (base_of s.region_size other + n) && nat_lt (base_of s.region_size other + n) (base_of s.region_size run + length bytes)) ≡ true → ⊥
+        apart n lt e = true≢false (sym in_it ∙ (out ((base_of s.region_size other + n) / s.region_size) (inside n lt)).0)
           where
             m : ℕ
-            m = (other.first * s.region_size + n) - first * s.region_size
+            m = (base_of s.region_size other + n) - base_of s.region_size run
 
-            same : first * s.region_size + m ≡ other.first * s.region_size + n
+            same : base_of s.region_size run + m ≡ base_of s.region_size other + n
             same = grind (arith, nat_tests)
 
             small : m < length bytes
             small = grind (arith, nat_tests)
 
-            at : in_run (run_at first (regions_needed s c t)) ((first * s.region_size + m) / s.region_size) ≡ true
+            at : in_run (run_at first (regions_needed s c t)) ((base_of s.region_size run + m) / s.region_size) ≡ true
             at = byte_in_run s.region_size first (length bytes) m good.sized small
 
-            in_it : in_run run ((other.first * s.region_size + n) / s.region_size) ≡ true
-            in_it = subst (λ a. in_run run (a / s.region_size) ≡ true) same (subst (λ k. in_run (run_at first k) ((first * s.region_size + m) / s.region_size) ≡ true) (sym legal.3) at)
+            in_it : in_run run ((base_of s.region_size other + n) / s.region_size) ≡ true
+            in_it = subst (λ a. in_run run (a / s.region_size) ≡ true) same (subst (λ k. in_run (run_at first k) ((base_of s.region_size run + m) / s.region_size) ≡ true) (sym legal.3) at)
 
-        stays : (n : ℕ) → n < length its → memory (other.first * s.region_size + n) ≡ get_or its n 0
+        stays : (n : ℕ) → n < length its → memory (base_of s.region_size other + n) ≡ get_or its n 0
         stays n lt = rw (false_from_ne_true _ (apart n lt)) (old.image n lt)
 
     uploaded_at : (base n : ℕ) → n < length bytes → uploaded w.memory base bytes (base + n) ≡ get_or bytes n 0
@@ -213,7 +228,7 @@ place s w c t first count good inv tex legal = record {
         yes_lt = grind (arith, nat_tests)
 
     this_held : Held s new memory c t run
-    this_held = record { count = legal.3; used = λ k i. rw i refl; image = λ n lt. uploaded_at (first * s.region_size) n lt }
+    this_held = record { count = legal.3; used = λ k i. rw i refl; image = λ n lt. uploaded_at (base_of s.region_size run) n lt }
 
     -- a region of the run was free or is freed
     roomy : (k : ℕ) → in_run run k ≡ true → is_room s.regions w.heap (classes_for s.regions w.heap count) k ≡ true
@@ -222,23 +237,73 @@ place s w c t first count good inv tex legal = record {
     not_roomy : (k : ℕ) → in_run run k ≡ true → w.heap.used k ≡ true → freed k ≡ false → ⊥
     not_roomy k i u f = true≢false (sym (roomy k i) ∙ no_room (w.heap.used k) (freed k) u f)
 
-    here : (u : ℕ) (other : Heaps.Run) → (u ≡ t) ⊎ (u ≡ t → ⊥) → part.placed u ≡ Some other → Held s new memory c u other
-    here u other (inl same) placed = subst (λ k. Held s new memory c k other) (sym same) (subst (Held s new memory c t) (some_run run other (grind (arith, nat_tests))) this_held)
-    here u other (inr ne) placed =
-        let old = kept_one freed ((w.client c).placed u) other (grind (arith, nat_tests)) in
-        let was_held : Held s w.heap w.memory c u other = tex.held c u other old.0 (λ k i. omega (arith, tex.ages k, was)) in
-        old_held c u other was_held (λ k i. (false_from_ne_true _ (λ inside. not_roomy k inside (was_held.used k i) (old.1 k i)), old.1 k i))
+    -- another texture of the client that isn't lost was live, and lies outside of the new run
+    kept_here : (u : ℕ) (other : Heaps.Run) → (u ≡ t → ⊥) → part.placed u ≡ Some other → IsLiveAt w.heap (w.client c) u other × ((k : ℕ) → in_run other k ≡ true → (in_run run k ≡ false) × (freed k ≡ false))
+    kept_here u other ne placed = (live, λ k i. (false_from_ne_true _ (λ inside. not_roomy k inside ((tex.held c u other live).used k i) (old.1 k i)), old.1 k i))
+      where
+        old : ((w.client c).placed u ≡ Some other) × ((k : ℕ) → in_run other k ≡ true → freed k ≡ false)
+        old = kept_one freed ((w.client c).placed u) other (grind (arith, nat_tests))
 
-    there : (d : ℕ) → HeldBy s new memory d (w.client d)
-    there d u other placed fresh = old_held d u other (tex.held d u other placed (λ k i. old_fresh k i)) out
+        live : IsLiveAt w.heap (w.client c) u other
+        live = (old.0, λ k i. omega (arith, tex.ages k, was))
+
+    -- the new texture lies in its run
+    placed_here : (u : ℕ) (other : Heaps.Run) → u ≡ t → part.placed u ≡ Some other → run ≡ other
+    placed_here u other same placed = some_run run other (grind (arith, nat_tests))
+
+    here : (u : ℕ) (other : Heaps.Run) → (u ≡ t) ⊎ (u ≡ t → ⊥) → part.placed u ≡ Some other → Held s new memory c u other
+    here u other (inl same) placed = subst (λ k. Held s new memory c k other) (sym same) (subst (Held s new memory c t) (placed_here u other same placed) this_held)
+    here u other (inr ne) placed =
+        let old = kept_here u other ne placed in
+        old_held c u other (tex.held c u other old.0) old.1
+
+    outside : (d u : ℕ) (other : Heaps.Run) → IsLiveAt new (w.client d) u other → (k : ℕ) → in_run other k ≡ true → (in_run run k ≡ false) × (freed k ≡ false)
+    outside d u other live = out
       where
         out : (k : ℕ) → in_run other k ≡ true → (in_run run k ≡ false) × (freed k ≡ false)
-        out k i = by_tests (in_run run k) (freed k) refl refl (fresh k i)
+        out k i = by_tests (in_run run k) (freed k) refl refl (live.1 k i)
           where
             by_tests : (a b : Bool) → in_run run k ≡ a → freed k ≡ b → (if a then suc between else (if b then between else w.heap.age k)) ≤ (w.client d).local → (a ≡ false) × (b ≡ false)
             by_tests true b p q l = absurd (omega (arith, l, low, tex.locals d))
             by_tests false true p q l = absurd (omega (arith, l, freed_age s.regions w.heap (classes_for s.regions w.heap count) k q, tex.locals d))
             by_tests false false p q l = (refl, refl)
 
-        old_fresh : (k : ℕ) → in_run other k ≡ true → w.heap.age k ≤ (w.client d).local
-        old_fresh k i = subst (λ v. v ≤ (w.client d).local) (rw ((out k i).0, (out k i).1) refl) (fresh k i)
+    was_live : (d u : ℕ) (other : Heaps.Run) → IsLiveAt new (w.client d) u other → IsLiveAt w.heap (w.client d) u other
+    was_live d u other live = (live.0, λ k i. let o = outside d u other live k i in subst (λ v. v ≤ (w.client d).local) (rw (o.0, o.1) refl) (live.1 k i))
+
+    there : (d : ℕ) → HeldBy s new memory d (w.client d)
+    there d u other live = old_held d u other (tex.held d u other (was_live d u other live)) (outside d u other live)
+
+    own_apart : (u v k : ℕ) (a b : Heaps.Run) → (u ≡ t) ⊎ (u ≡ t → ⊥) → (v ≡ t) ⊎ (v ≡ t → ⊥) → part.placed u ≡ Some a → part.placed v ≡ Some b → in_run a k ≡ true → in_run b k ≡ true → u ≡ v
+    own_apart u v k a b (inl one) (inl two) p q i j = one ∙ sym two
+    own_apart u v k a b (inl one) (inr two) p q i j = absurd (true≢false (sym (subst (λ r. in_run r k ≡ true) (sym (placed_here u a one p)) i) ∙ ((kept_here v b two q).1 k j).0))
+    own_apart u v k a b (inr one) (inl two) p q i j = absurd (true≢false (sym (subst (λ r. in_run r k ≡ true) (sym (placed_here v b two q)) j) ∙ ((kept_here u a one p).1 k i).0))
+    own_apart u v k a b (inr one) (inr two) p q i j = tex.apart c u v k a b (kept_here u a one p).0 (kept_here v b two q).0 i j
+
+    -- a region of the client's live textures is new, or it was one
+    own_region : (k : ℕ) → HasLive new part k → (in_run run k ≡ true) ⊎ HasLive w.heap (w.client c) k
+    own_region k x = by_texture (cases_eq x.0 t)
+      where
+        by_texture : (x.0 ≡ t) ⊎ (x.0 ≡ t → ⊥) → (in_run run k ≡ true) ⊎ HasLive w.heap (w.client c) k
+        by_texture (inl same) = inl (subst (λ r. in_run r k ≡ true) (sym (placed_here x.0 x.1 same x.2.0)) x.3)
+        by_texture (inr ne) = inr (x.0, x.1, (kept_here x.0 x.1 ne x.2.0).0, x.3)
+
+    -- a region of another's live textures was one, and isn't new
+    their_region : (d k : ℕ) → HasLive new (w.client d) k → HasLive w.heap (w.client d) k × (in_run run k ≡ false)
+    their_region d k x = ((x.0, x.1, was_live d x.0 x.1 x.2, x.3), (outside d x.0 x.1 x.2 k x.3).0)
+
+    against : (d k : ℕ) → HasLive new part k → HasLive new (w.client d) k → c ≡ d
+    against d k mine theirs = by_region (own_region k mine) (their_region d k theirs)
+      where
+        by_region : (in_run run k ≡ true) ⊎ HasLive w.heap (w.client c) k → HasLive w.heap (w.client d) k × (in_run run k ≡ false) → c ≡ d
+        by_region (inl inside) there = absurd (true≢false (sym inside ∙ there.1))
+        by_region (inr old) there = tex.alone c d k old there.0
+
+    put_at : (d : ℕ) → d ≡ c → put w.client c part d ≡ part
+    put_at d same = rw same (put_here w.client c part)
+
+    still_alone : (d e k : ℕ) → (d ≡ c) ⊎ (d ≡ c → ⊥) → (e ≡ c) ⊎ (e ≡ c → ⊥) → HasLive new (put w.client c part d) k → HasLive new (put w.client c part e) k → d ≡ e
+    still_alone d e k (inl one) (inl two) a b = one ∙ sym two
+    still_alone d e k (inl one) (inr two) a b = one ∙ against e k (subst (λ q. HasLive new q k) (put_at d one) a) (subst (λ q. HasLive new q k) (put_there w.client c part e two) b)
+    still_alone d e k (inr one) (inl two) a b = sym (against d k (subst (λ q. HasLive new q k) (put_at e two) b) (subst (λ q. HasLive new q k) (put_there w.client c part d one) a)) ∙ sym two
+    still_alone d e k (inr one) (inr two) a b = tex.alone d e k (their_region d k (subst (λ q. HasLive new q k) (put_there w.client c part d one) a)).0 (their_region e k (subst (λ q. HasLive new q k) (put_there w.client c part e two) b)).0

@@ -1,11 +1,12 @@
 -- Runs of the core, and what is said of them.
-use Rattle.std.specs.Prelude.{List, Some, [], true, ℕ, ◌++◌, ◌∷◌, ◌≡◌, ◌≢◌}
+use Rattle.std.specs.Prelude.{Bool, List, None, Option, Some, [], true, ℕ, ◌++◌, ◌∷◌, ◌≡◌, ◌≢◌}
+use Rattle.dri_base.specs.declared.journal.Entry.{Entry}
 use Rattle.dri_base.specs.declared.journal.Event.{Event}
 use Rattle.dri_base.specs.declared.journal.Event.TheVariants.{Run}
 use Rattle.dri_base.specs.declared.scene.Scene.{Scene}
-use Rattle.dri_meaning.specs.Cores.{Core, opening_core}
+use Rattle.dri_meaning.specs.Cores.{Core, entry_of, opening_core}
 use Rattle.dri_meaning.specs.EventTable.{LegalEvent, after_event}
-use Rattle.dri_meaning.specs.Frames.{OwnAt, Shows}
+use Rattle.dri_meaning.specs.Frames.{OwnAt, Shows, keeps}
 use Rattle.dri_meaning.specs.Runs.{SameOutside}
 use Rattle.dri_base.specs.Scenes.{command_at, commands_of, window_of}
 use Rattle.dri_meaning.specs.Solo.{frame, is_swap}
@@ -39,10 +40,15 @@ ConfinedRun s events =
 abbrev pub OwnRun : Scene → List Event → Type 0
 OwnRun s events = (past rest : List Event) (c i : ℕ) → events ≡ past ++ Run c i ∷ rest → OwnAt s (world_of s past) c i
 
--- none of these events gives window n a new stamp
+-- an entry keeps what stands on window n, where there is one
+abbrev pub entry_keeps : Scene → World → Option Entry → ℕ → Bool
+entry_keeps s w None n = true
+entry_keeps s w (Some e) n = keeps s w e n
+
+-- each of these events keeps what stands on window n
 abbrev pub StandsIn : Scene → ℕ → Core → List Event → Type 0
 StandsIn s n k [] = Unit {0}
-StandsIn s n k (e ∷ es) = ((after_event s k e).world.stamps n ≡ k.world.stamps n) × StandsIn s n (after_event s k e) es
+StandsIn s n k (e ∷ es) = (entry_keeps s k.world (entry_of e) n ≡ true) × StandsIn s n (after_event s k e) es
 
 -- none of these events is a swap of client c
 abbrev pub NoSwapIn : Scene → ℕ → List Event → Type 0

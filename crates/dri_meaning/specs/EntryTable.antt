@@ -1,5 +1,5 @@
 -- The table of entries: where each is legal, and the world after it.
-use Rattle.std.specs.Prelude.{None, Some, false, length, true, ℕ, ◌*◌, ◌+◌, ◌≡◌, ◌≢◌, ◌≤◌, ◌⊎◌}
+use Rattle.std.specs.Prelude.{None, Some, false, length, true, ℕ, ◌+◌, ◌≡◌, ◌≢◌, ◌≤◌, ◌⊎◌}
 use Rattle.dri_base.specs.Texels.{texture_in}
 use Rattle.dri_base.specs.declared.command.Command.TheVariants.{Die}
 use Rattle.dri_base.specs.declared.journal.Entry.{Entry}
@@ -7,11 +7,11 @@ use Rattle.dri_base.specs.declared.scene.Scene.{Scene}
 use Rattle.dri_meaning.specs.Effects.{after_leave, back_after, front_after, heap_after, placed_by, run_at, run_by, taken_in, told}
 use Rattle.dri_meaning.specs.Phases.{Ask, Asking, Dead, In, Old, Out, Over, is_done, is_holding}
 use Rattle.dri_meaning.specs.Privates.{can_draw, can_run, is_ready, is_triangle, own_registers, textured_with, used_run}
-use Rattle.dri_meaning.specs.Restacks.{counter_after, front_painted, next_stack, stamps_after}
+use Rattle.dri_meaning.specs.Restacks.{next_stack, restacked}
 use Rattle.dri_base.specs.Scenes.{bytes_of, command_at, is_named, regions_needed, textures_of}
 use Rattle.dri_meaning.specs.Worlds.{World, put}
 use Rattle.dri_model.specs.Groups.{bits, is_empty, no_groups}
-use Rattle.dri_model.specs.Heaps.{allocated, is_place_for, uploaded}
+use Rattle.dri_model.specs.Heaps.{allocated, base_of, is_place_for, uploaded}
 use Rattle.dri_model.specs.Stacks.{without_owner}
 use Rattle.dri_model.specs.Words.{loaded}
 use Rattle.dri_base.specs.declared.journal.Entry.TheVariants as Entry_is
@@ -51,7 +51,7 @@ after_entry s w (Entry_is.Emit c groups) = record w {
 }
 after_entry s w (Entry_is.Place c t first count) = record w {
   heap = allocated s.regions w.heap (run_at first count);
-  memory = uploaded w.memory (first * s.region_size) (bytes_of (texture_in (textures_of s c) t));
+  memory = uploaded w.memory (base_of s.region_size (run_at first count)) (bytes_of (texture_in (textures_of s c) t));
   client = put w.client c (placed_by s w c t first count);
 }
 after_entry s w (Entry_is.Run c i) = record w {
@@ -66,20 +66,9 @@ after_entry s w (Entry_is.Leave c) = record w {
   client = put w.client c (record (w.client c) { phase = after_leave s c (w.client c) });
 }
 after_entry s w (Entry_is.Info c) = record w { left = 1; client = put w.client c (told s w c) }
-after_entry s w (Entry_is.Change i) = record w {
-  left = 1;
-  stack = next_stack s w;
-  stamps = stamps_after s w (next_stack s w);
-  counter = counter_after s w (next_stack s w);
-  made = w.made + 1;
-  front = front_painted s w (next_stack s w);
-}
-after_entry s w (Entry_is.Gone c) = record w {
+after_entry s w (Entry_is.Change i) = record (restacked s w (next_stack s w)) { left = 1; made = w.made + 1 }
+after_entry s w (Entry_is.Gone c) = record (restacked s w (without_owner c w.stack)) {
   holder = None;
   left = 0;
   client = put w.client c (record (w.client c) { phase = Dead });
-  stack = without_owner c w.stack;
-  stamps = stamps_after s w (without_owner c w.stack);
-  counter = counter_after s w (without_owner c w.stack);
-  front = front_painted s w (without_owner c w.stack);
 }

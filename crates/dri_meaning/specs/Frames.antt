@@ -1,6 +1,6 @@
 -- Frames, which of them stood, and what they leave.
 use Rattle.std.specs.List.{All}
-use Rattle.std.specs.Prelude.{AllPairs, Contains, length, List, Some, [], pos, true, ℕ, ℤ, ◌++◌, ◌-ℤ◌, ◌∷◌, ◌≡◌, ◌≢◌}
+use Rattle.std.specs.Prelude.{AllPairs, Bool, Contains, length, List, Some, [], pos, true, ℕ, ℤ, ◌++◌, ◌-ℤ◌, ◌==◌, ◌∷◌, ◌≡◌, ◌≢◌}
 use Rattle.dri_base.specs.Fragments.{fragment, rules_of}
 use Rattle.dri_base.specs.States.{state_at}
 use Rattle.dri_base.specs.declared.command.Command.TheVariants.{Triangle}
@@ -15,10 +15,14 @@ use Rattle.dri_meaning.specs.Solo.{frame, image_at, is_swap, solo_frame}
 use Rattle.dri_meaning.specs.Worlds.{World, clips_in}
 use Rattle.dri_model.specs.Stacks.{origin}
 
--- none of these entries gives window n a new stamp
+-- what stands on window n stands after the entry: it gives the window no new stamp
+abbrev pub keeps : Scene → World → Entry → ℕ → Bool
+keeps s w e n = (after_entry s w e).stamps n == w.stamps n
+
+-- each of these entries keeps what stands on window n
 abbrev pub Stands : Scene → ℕ → World → List Entry → Type 0
 Stands s n w [] = Unit {0}
-Stands s n w (e ∷ es) = ((after_entry s w e).stamps n ≡ w.stamps n) × Stands s n (after_entry s w e) es
+Stands s n w (e ∷ es) = (keeps s w e n ≡ true) × Stands s n (after_entry s w e) es
 
 -- frame k of client c ran: it begins with a clear, and its swap is among the entries
 pub record FrameRan (s : Scene) (journal : List Entry) (c k : ℕ) : Type 0 where

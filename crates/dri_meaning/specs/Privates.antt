@@ -1,5 +1,5 @@
 -- What one client keeps: its private part.
-use Rattle.std.specs.Prelude.{Bool, List, None, Option, Some, false, if◌then◌else◌, is_some, pos, true, ℕ, ℤ, ◌&&◌, ◌*◌, ◌==◌}
+use Rattle.std.specs.Prelude.{Bool, List, None, Option, Some, false, if◌then◌else◌, is_some, pos, true, ℕ, ℤ, ◌&&◌, ◌==◌}
 use Rattle.dri_base.specs.States.{default_state, state_after}
 use Rattle.dri_base.specs.Texels.{texture_bound}
 use Rattle.dri_base.specs.declared.command.Command.{Command}
@@ -13,7 +13,7 @@ use Rattle.dri_base.specs.declared.texture.Texture.{Texture}
 use Rattle.dri_meaning.specs.Phases.{Phase, first_phase}
 use Rattle.dri_base.specs.Scenes.{textures_of}
 use Rattle.dri_model.specs.Groups.{Groups, all_groups, is_empty}
-use Rattle.dri_model.specs.Heaps.{Run, any_in, lose}
+use Rattle.dri_model.specs.Heaps.{Run, any_in, base_of, lose}
 use Rattle.dri_model.specs.Words.{registers_for}
 use Rattle.dri_base.specs.declared.state.TexMode.TheVariants as Mode_is
 
@@ -83,7 +83,7 @@ is_ready p = is_ready_for p.placed (textured_with p.state)
 abbrev pub bound_at : ℕ → Option Texture → Option Run → Option BoundTexture
 bound_at size None run = None
 bound_at size (Some t) None = None
-bound_at size (Some t) (Some run) = Some (record { shape = t.shape; base = run.first * size })
+bound_at size (Some t) (Some run) = Some (record { shape = t.shape; base = base_of size run })
 
 -- the bound texture as the card is to know it: none where it isn't placed
 abbrev pub bound_texture : Scene → ℕ → Private → Option BoundTexture

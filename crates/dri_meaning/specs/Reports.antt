@@ -6,6 +6,7 @@ use Rattle.dri_base.specs.declared.command.Command.TheVariants.{Clear, Die, Set,
 use Rattle.dri_base.specs.declared.journal.Entry.{Entry}
 use Rattle.dri_base.specs.declared.scene.Scene.{Scene}
 use Rattle.dri_meaning.specs.EntryTable.{after_entry}
+use Rattle.dri_meaning.specs.Frames.{keeps}
 use Rattle.dri_meaning.specs.Phases.{is_done}
 use Rattle.dri_meaning.specs.Runs.{after}
 use Rattle.dri_base.specs.Scenes.{command_at, window_of}
@@ -75,15 +76,15 @@ tally_run s t c command = record {
   standing = λ d. if d == c then standing_after command (t.standing d) else t.standing d;
 }
 
--- a new stamp of its window cuts a client's frame
-abbrev pub tally_stamps : Scene → World → World → Tally → Tally
-tally_stamps s old new t = record t { standing = λ d. cut_by (not (old.stamps (window_of s d) == new.stamps (window_of s d))) (t.standing d) }
+-- an entry that doesn't keep what stands on its window cuts a client's frame
+abbrev pub tally_cut : Scene → World → Entry → Tally → Tally
+tally_cut s w e t = record t { standing = λ d. cut_by (not (keeps s w e (window_of s d))) (t.standing d) }
 
 -- the tally after an entry
 abbrev pub tally_after : Scene → World → Entry → Tally → Tally
 tally_after s w (Entry_is.Run c i) t = tally_run s t c (command_at s c i)
-tally_after s w (Entry_is.Change i) t = tally_stamps s w (after_entry s w (Entry_is.Change i)) t
-tally_after s w (Entry_is.Gone c) t = tally_stamps s w (after_entry s w (Entry_is.Gone c)) t
+tally_after s w (Entry_is.Change i) t = tally_cut s w (Entry_is.Change i) t
+tally_after s w (Entry_is.Gone c) t = tally_cut s w (Entry_is.Gone c) t
 tally_after s w (Entry_is.Light c) t = t
 tally_after s w (Entry_is.Kernel c found) t = t
 tally_after s w (Entry_is.Stale c) t = t

@@ -28,6 +28,15 @@ counter_after s w new = w.counter + touches s.width s.height w.stack new
 abbrev pub front_painted : Scene → World → List Window → ℕ → ℕ → Rgb
 front_painted s w new = painted s.root w.stack new w.front
 
+-- the world with a new stack
+abbrev pub restacked : Scene → World → List Window → World
+restacked s w new = record w {
+  stack = new;
+  stamps = stamps_after s w new;
+  counter = counter_after s w new;
+  front = front_painted s w new;
+}
+
 -- the stack after the next change
 abbrev pub next_stack : Scene → World → List Window
 next_stack s w = change_stack w.stack (slice_get s.changes w.made)

@@ -1,5 +1,5 @@
 -- Hold-runs, and what is said of them.
-use Rattle.std.specs.Prelude.{drop, Bool, List, None, Some, [], false, filter, get_or, length, true, ℕ, ◌*◌, ◌++◌, ◌+◌, ◌<◌, ◌==◌, ◌∷◌, ◌≡◌, ◌≤◌, ◌⊎◌}
+use Rattle.std.specs.Prelude.{drop, Bool, List, None, Some, [], false, filter, get_or, length, true, ℕ, ◌++◌, ◌+◌, ◌<◌, ◌==◌, ◌∷◌, ◌≡◌, ◌≤◌, ◌⊎◌}
 use Rattle.dri_base.specs.Texels.{texture_in}
 use Rattle.dri_base.specs.declared.journal.Entry.{Entry}
 use Rattle.dri_base.specs.declared.journal.Entry.TheVariants.{Run}
@@ -7,11 +7,11 @@ use Rattle.dri_base.specs.declared.scene.Scene.{Scene}
 use Rattle.dri_base.specs.declared.state.Registers.{Registers}
 use Rattle.dri_meaning.specs.EntryTable.{LegalEntry, after_entry}
 use Rattle.dri_meaning.specs.Phases.{Asking, In, Out, Over, is_done}
-use Rattle.dri_meaning.specs.Privates.{own_registers}
+use Rattle.dri_meaning.specs.Privates.{Private, own_registers}
 use Rattle.dri_base.specs.Scenes.{bytes_of, textures_of, window_of}
 use Rattle.dri_meaning.specs.Worlds.{World, clips_in, opening}
 use Rattle.dri_model.specs.Groups.{Groups}
-use Rattle.dri_model.specs.Heaps.{Heap, in_run}
+use Rattle.dri_model.specs.Heaps.{Heap, base_of, in_run}
 use Rattle.dri_model.specs.Stacks.{origin}
 use Rattle.dri_base.specs.declared.journal.Entry.TheVariants as Entry_is
 use Rattle.dri_model.specs.Heaps as Heaps
@@ -84,13 +84,23 @@ IsFresh h local run = (k : ℕ) → in_run run k ≡ true → h.age k ≤ local
 abbrev pub HasBytes : (ℕ → ℕ) → ℕ → List ℕ → Type 0
 HasBytes memory base bytes = (n : ℕ) → n < length bytes → memory (base + n) ≡ get_or bytes n 0
 
--- a placed texture with no region newer than its client's local age is in use and has its image; no age is above the global age
+-- texture t is live: it is placed in the run, none of whose regions is newer than its client's local age
+abbrev pub IsLiveAt : Heap → Private → ℕ → Heaps.Run → Type 0
+IsLiveAt h p t run = (p.placed t ≡ Some run) × IsFresh h p.local run
+
+-- region k lies in a live texture
+abbrev pub HasLive : Heap → Private → ℕ → Type 0
+HasLive h p k = (t : ℕ) × (run : Heaps.Run) × IsLiveAt h p t run × (in_run run k ≡ true)
+
+-- a live texture is in use and has its image; no region lies in two live textures; no age is above the global age
 pub record Intact (s : Scene) (w : World) : Type 0 where
   pub ages : (k : ℕ) → w.heap.age k ≤ w.heap.global
   pub locals : (c : ℕ) → (w.client c).local ≤ w.heap.global
-  pub used : (c t : ℕ) (run : Heaps.Run) → (w.client c).placed t ≡ Some run → IsFresh w.heap (w.client c).local run → (k : ℕ) → in_run run k ≡ true → w.heap.used k ≡ true
-  pub image : (c t : ℕ) (run : Heaps.Run) → (w.client c).placed t ≡ Some run → IsFresh w.heap (w.client c).local run →
-      HasBytes w.memory (run.first * s.region_size) (bytes_of (texture_in (textures_of s c) t))
+  pub used : (c t : ℕ) (run : Heaps.Run) → IsLiveAt w.heap (w.client c) t run → (k : ℕ) → in_run run k ≡ true → w.heap.used k ≡ true
+  pub image : (c t : ℕ) (run : Heaps.Run) → IsLiveAt w.heap (w.client c) t run →
+      HasBytes w.memory (base_of s.region_size run) (bytes_of (texture_in (textures_of s c) t))
+  pub apart : (c t u k : ℕ) (a b : Heaps.Run) → IsLiveAt w.heap (w.client c) t a → IsLiveAt w.heap (w.client c) u b → in_run a k ≡ true → in_run b k ≡ true → t ≡ u
+  pub alone : (c d k : ℕ) → HasLive w.heap (w.client c) k → HasLive w.heap (w.client d) k → c ≡ d
 
 -- nobody holds, no client asks, every client is ended or dead, and all changes were made
 pub record IsWholeWorld (s : Scene) (w : World) : Type 0 where

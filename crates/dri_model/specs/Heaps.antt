@@ -1,5 +1,5 @@
 -- Texture regions and their ages, as sets: which are in use, and the age of each.
-use Rattle.std.specs.Prelude.{ℕ, suc, ◌+◌, ◌-◌, Bool, ◌==◌, not, ◌||◌, ◌&&◌, nat_lt, nat_le, if◌then◌else◌, List, length, get_or, Option, Some, None}
+use Rattle.std.specs.Prelude.{ℕ, suc, ◌+◌, ◌-◌, ◌*◌, Bool, ◌==◌, not, ◌||◌, ◌&&◌, nat_lt, nat_le, if◌then◌else◌, List, length, get_or, Option, Some, None}
 use Rattle.dri_model.specs.Counting.{any_from, how_many, least}
 
 -- neighbouring regions
@@ -88,6 +88,10 @@ lose p (Some r) = if any_in r p then None else Some r
 -- the region is newer than this age
 abbrev pub is_newer : Heap → ℕ → ℕ → Bool
 is_newer h local k = nat_lt local (h.age k)
+
+-- where a run begins in texture memory, with regions of so many bytes
+abbrev pub base_of : ℕ → Run → ℕ
+base_of size run = run.first * size
 
 -- the memory after bytes are written from a base on
 abbrev pub uploaded : (ℕ → ℕ) → ℕ → List ℕ → ℕ → ℕ

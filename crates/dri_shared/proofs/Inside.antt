@@ -95,7 +95,7 @@ module _ (s : Scene) (journal : List Entry) (good : InRange s) (run : HoldRun s 
   fresh_at r k e = rw (current s journal good run c acts).local ((sound_after s journal (well_formed s good) run).textures.ages k)
 
   pub held_at : (t : ℕ) (r : Run) → ((after s journal).client c).placed t ≡ Some r → Held s (after s journal).heap (after s journal).memory c t r
-  held_at t r e = (sound_after s journal (well_formed s good) run).textures.held c t r e (fresh_at r)
+  held_at t r e = (sound_after s journal (well_formed s good) run).textures.held c t r (e, fresh_at r)
 
   -- the run that a triangle uses
   by_use : (o : Option ℕ) (u : Option Run) → run_of ((after s journal).client c).placed o ≡ u → IfSome u (IsInside s.regions) × IfSome u (IsInUse (after s journal).heap)
