@@ -19,6 +19,7 @@ pub mod EventTurns
 pub mod TurnEvents
 pub mod OneTurn
 pub mod Lively
+pub mod Stays
 pub mod Endings
 pub mod Aged
 pub mod WorkParts

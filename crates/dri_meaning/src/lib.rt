@@ -7,6 +7,7 @@ mod bound;
 mod core_runs;
 mod frame;
 mod hold_runs;
+mod later;
 mod picture;
 mod settings;
 mod solo;
@@ -17,6 +18,7 @@ pub use core_runs::{core, rounds_end, turns};
 pub use hold_runs::{
     bounded, central, confined, counted, decided, foreign, frames, own, solo_left,
 };
+pub use later::{lasting, plain_in_range, whole_by_parts};
 pub use picture::{Picture, Pixels, SoloFault, solo_picture};
 pub use solo::solo_pixel;
 pub use worked::{
