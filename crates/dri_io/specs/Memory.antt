@@ -1,5 +1,5 @@
 -- Sources and sinks in memory.
-use Rattle.std.specs.Prelude.{ℕ, ◌+◌, ◌-◌, ◌^◌, min, List}
+use Rattle.std.specs.Prelude.{◌≡◌, ℕ, ◌+◌, ◌-◌, ◌^◌, ◌≤◌, min, List, [], length, Result, Ok, Err}
 
 -- a source in memory: what is left, the largest piece, which calls fail, how many calls were made, how many failed
 pub record Feed : Type 0 where
@@ -26,3 +26,12 @@ pub record Store : Type 0 where
   pub fails : List ℕ
   pub calls : ℕ
   pub faults : ℕ
+
+-- the count rises by one exactly where the call fails, and stays else
+abbrev pub Counts : {T E : Type 0} → ℕ → ℕ → Result T E → Type 0
+Counts before now (Ok n) = now ≡ before
+Counts before now (Err e) = now ≡ one_more before
+
+-- no call fails by its number, and there is room for so many bytes more
+abbrev pub HasRoom : Store → ℕ → Type 0
+HasRoom s n = (s.fails ≡ []) × (length s.held + n ≤ s.capacity)

@@ -1,9 +1,9 @@
-ghost use Rattle.std.specs.Prelude.{◌≡◌, ◌+◌, ◌-◌, ◌^◌, ◌<◌, ◌≤◌, ◌↔◌, [], Some, None, Ok, Err, min, length, take, drop, IsErr, IfOk, Contains, OnErr};
+ghost use Rattle.std.specs.Prelude.{◌≡◌, ℕ, ◌+◌, ◌-◌, ◌^◌, ◌<◌, ◌≤◌, ◌↔◌, [], Some, None, Ok, Err, min, length, take, drop, IsErr, IfOk, Contains, OnErr};
 ghost use Rattle.std.specs.Prelude.{◌++◌, ◌⊎◌, vec_len, vec_capacity};
 ghost use Rattle.std.specs.Io.{ReadsAtMost, WritesAtMost};
 ghost use Rattle.std.specs.Io.KnownBytes.{ReadConsumes, WriteAppends};
-ghost use Rattle.dri_io.specs.Causes.{HasCause};
-ghost use Rattle.dri_io.specs.Memory.{one_more};
+ghost use Rattle.dri_io.specs.Causes.{GivesOn, HasCause, TakesOn};
+ghost use Rattle.dri_io.specs.Memory.{Counts, HasRoom, one_more};
 
 use crate::{Failed, Sink, Source};
 use dri_base::{Bytes, OutOfMemory, Sequence};
@@ -70,12 +70,16 @@ impl Source for MemorySource {
 
     ghost faults = { λ s. s.faults };
 
+    ghost gives_all = { λ s. s.fails ≡ [] };
+
     fn read(&mut self, into: &mut [u8]) -> Result<usize, Failed>
         requires { 0 < length into.old }
         ensures bound { ReadsAtMost result into.new }
         ensures bytes { ReadConsumes (Some self.old.left) (Some self.new.left) result into.new }
         ensures cause { HasCause self.old.faults self.new.faults result }
+        ensures sure { self.old.fails ≡ [] → GivesOn (self.new.fails ≡ []) self.old.faults self.new.faults result }
         ensures fails { IsErr result ↔ Contains self.old.fails (one_more self.old.calls) }
+        ensures count { Counts self.old.faults self.new.faults result }
         ensures piece { IfOk result (λ n. n ≡ min self.old.piece (min (length into.old) (length self.old.left))) }
         ensures calls { self.new.calls ≡ one_more self.old.calls }
         ensures rest { (self.new.fails ≡ self.old.fails) × (self.new.piece ≡ self.old.piece) }
@@ -129,11 +133,14 @@ impl Source for NeverFails {
 
     ghost faults = { λ _. 0 };
 
+    ghost gives_all = { λ _. Unit {0} };
+
     fn read(&mut self, into: &mut [u8]) -> Result<usize, Failed>
         requires { 0 < length into.old }
         ensures bound { ReadsAtMost result into.new }
         ensures bytes { ReadConsumes (Some self.old.left) (Some self.new.left) result into.new }
         ensures cause { HasCause 0 0 result }
+        ensures sure { Unit {0} → GivesOn (Unit {0}) 0 0 result }
         ensures piece { result ≡ Ok (min self.old.piece (min (length into.old) (length self.old.left))) }
         ensures rest { self.new.piece ≡ self.old.piece }
     {
@@ -159,12 +166,15 @@ impl Sink for NullSink {
 
     ghost faults = { λ _. 0 };
 
+    ghost takes = { λ _ n. Unit {0} };
+
     fn write(&mut self, bytes: &[u8]) -> Result<usize, Failed>
         requires { 0 < length bytes.now }
         ensures bound { WritesAtMost result bytes.now }
         ensures some { IfOk result (λ n. 0 < n) }
         ensures bytes { WriteAppends None None result bytes.now }
         ensures cause { HasCause 0 0 result }
+        ensures room { (n : ℕ) → length bytes.now ≤ n → Unit {0} → TakesOn (λ (m : ℕ). Unit {0}) n 0 0 result }
         ensures whole { result ≡ Ok (length bytes.now) }
     {
         Ok(bytes.len())
@@ -238,13 +248,17 @@ impl Sink for MemorySink {
 
     ghost faults = { λ s. s.faults };
 
+    ghost takes = { λ s n. HasRoom s n };
+
     fn write(&mut self, bytes: &[u8]) -> Result<usize, Failed>
         requires { 0 < length bytes.now }
         ensures bound { WritesAtMost result bytes.now }
         ensures some { IfOk result (λ n. 0 < n) }
         ensures bytes { WriteAppends (Some self.old.held) (Some self.new.held) result bytes.now }
         ensures cause { HasCause self.old.faults self.new.faults result }
+        ensures room { (n : ℕ) → length bytes.now ≤ n → HasRoom self.old n → TakesOn (HasRoom self.new) n self.old.faults self.new.faults result }
         ensures fails { IsErr result ↔ (Contains self.old.fails (one_more self.old.calls) ⊎ (self.old.capacity ≤ length self.old.held)) }
+        ensures count { Counts self.old.faults self.new.faults result }
         ensures calls { self.new.calls ≡ one_more self.old.calls }
         ensures piece { IfOk result (λ n. n ≡ min self.old.piece (min (self.old.capacity - length self.old.held) (length bytes.now))) }
         ensures rest { (self.new.fails ≡ self.old.fails) × (self.new.capacity ≡ self.old.capacity) × (self.new.piece ≡ self.old.piece) }

@@ -1,6 +1,8 @@
 //! The edge to the outside: std's readers and writers as sources and sinks. What the operating system gave and took is
 //! trusted, not proved.
 
+ghost use Rattle.std.specs.Prelude.{◌≡◌};
+
 use crate::{Failed, Sink, Source};
 use std::io::{Read, Write};
 
@@ -13,7 +15,9 @@ pub struct StdSource<R> {
 
 impl<R: Read> StdSource<R> {
     /// The reader as a source whose count of faults is 0.
-    pub fn new(inner: R) -> StdSource<R> {
+    pub fn new(inner: R) -> StdSource<R>
+        ensures { ⟦<StdSource<R> as Source>⟧.faults result ≡ 0 }
+    {
         StdSource { inner, faults: 0 }
     }
 }
@@ -22,6 +26,8 @@ impl<R: Read> Source for StdSource<R> {
     ghost left = { λ s. R.remaining s.inner };
 
     ghost faults = { λ s. s.faults };
+
+    ghost gives_all = { λ _. ⊥ };
 
     fn read(&mut self, into: &mut [u8]) -> Result<usize, Failed> {
         match self.inner.read(into) {
@@ -43,7 +49,9 @@ pub struct StdSink<W> {
 
 impl<W: Write> StdSink<W> {
     /// The writer as a sink whose count of faults is 0.
-    pub fn new(inner: W) -> StdSink<W> {
+    pub fn new(inner: W) -> StdSink<W>
+        ensures { ⟦<StdSink<W> as Sink>⟧.faults result ≡ 0 }
+    {
         StdSink { inner, faults: 0 }
     }
 }
@@ -52,6 +60,8 @@ impl<W: Write> Sink for StdSink<W> {
     ghost held = { λ s. W.contents s.inner };
 
     ghost faults = { λ s. s.faults };
+
+    ghost takes = { λ _ n. ⊥ };
 
     fn write(&mut self, bytes: &[u8]) -> Result<usize, Failed> {
         match self.inner.write(bytes) {
