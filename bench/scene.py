@@ -1,0 +1,86 @@
+#!/usr/bin/env python3
+"""Prints a scene for timing.
+
+N clients have a window each and draw twenty frames of two textured triangles with depth, over three textures in turn, while
+the server raises, moves, lowers and resizes their windows forty times. It has no block of turns.
+
+usage: bench/scene.py N        N is 1 to 32
+"""
+
+import sys
+
+WINDOW_WIDTH, WINDOW_HEIGHT = 280, 220
+TEXTURES, TEXTURE_SIDE = 3, 64
+FRAMES, CHANGES = 20, 40
+# In sixteenths of a pixel, and in texels.
+RIGHT, BOTTOM = 16 * WINDOW_WIDTH, 16 * WINDOW_HEIGHT
+LAST = 16 * TEXTURE_SIDE - 1
+
+
+def windows(count):
+    for n in range(1, count + 1):
+        yield f"window {n} {61 * n % 320} {43 * n % 200} {WINDOW_WIDTH} {WINDOW_HEIGHT} {7 * n:02x}4080 {n} up"
+
+
+def texture(client, number):
+    side = range(TEXTURE_SIDE)
+    texels = bytes((x * number + y * client) % 256 for y in side for x in side)
+    return f"texture {number} l8 {TEXTURE_SIDE} {TEXTURE_SIDE} {texels.hex()}"
+
+
+def frame(client, number):
+    """A frame's near triangle begins one pixel lower each time."""
+    yield f"clear {10 * number:02x}{7 * client:02x}00 65535"
+    yield f"set bind {(number - 1) % TEXTURES + 1}"
+    far, near = "1000 ffffffff", "500 80ff80ff"
+    yield f"triangle 0 0 {far} 0 0 {RIGHT} 0 {far} {LAST} 0 0 {BOTTOM} {far} 0 {LAST}"
+    yield f"triangle {RIGHT} {16 * number} {near} 0 0 {RIGHT} {BOTTOM} {near} {LAST} 0 0 {BOTTOM} {near} 0 {LAST}"
+    yield "swap"
+
+
+def block(client):
+    yield f"client {client} {client}"
+    for number in range(1, TEXTURES + 1):
+        yield texture(client, number)
+    yield "set depth less"
+    yield "set write on"
+    yield "set texmode modulate"
+    for number in range(1, FRAMES + 1):
+        yield from frame(client, number)
+    yield "end"
+
+
+def change(number, count):
+    window = (number - 1) % count + 1
+    return (
+        f"resize {window} {200 + number} {150 + number}",
+        f"raise {window}",
+        f"move {window} {53 * number % 320} {29 * number % 200}",
+        f"lower {window}",
+    )[number % 4]
+
+
+def scene(count):
+    yield "dri 1"
+    yield "screen 640 480 203040"
+    yield "heap 16 4096"
+    yield from windows(count)
+    for client in range(1, count + 1):
+        yield from block(client)
+    yield "server"
+    for number in range(1, CHANGES + 1):
+        yield change(number, count)
+    yield "end"
+    yield "done"
+
+
+def main(words):
+    if len(words) != 1 or not words[0].isdigit() or not 1 <= int(words[0]) <= 32:
+        print("usage: bench/scene.py N, with N from 1 to 32", file=sys.stderr)
+        return 2
+    print("\n".join(scene(int(words[0]))))
+    return 0
+
+
+if __name__ == "__main__":
+    sys.exit(main(sys.argv[1:]))
