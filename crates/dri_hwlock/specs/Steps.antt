@@ -1,5 +1,5 @@
 -- What each kind of step tells its caller: of the step, the seat before, the number found and the seat after.
-use Rattle.std.specs.Prelude.{◌≡◌, ◌≢◌, ℕ, ◌-◌, ◌<◌, [], ◌∷◌, List, Option, Some}
+use Rattle.std.specs.Prelude.{◌≡◌, ◌≢◌, ℕ, ◌-◌, ◌<◌, [], ◌∷◌, List, length, Option, Some}
 use Rattle.atomic_table.specs.Table.{Me, Step}
 use Rattle.dri_hwlock.specs.declared.view.View.{View}
 use Rattle.dri_hwlock.specs.declared.view.Stage.TheVariants.{Idle, LightFailed, LeftLightly, Holding}
@@ -33,6 +33,12 @@ module _ {G B E : Type 0} where
   abbrev pub mark_tells : Step (Option G) → Me (Option G) (View B E) → ℕ → Me (Option G) (View B E) → Type 0
   mark_tells st me found new = IsWord found × (found ≡ st.first → new ≡ (with_look me.0 st.second, me.1)) × (found ≢ st.first → new ≡ (with_look me.0 found, me.1))
 
+  -- The load of the number of entries puts the value home exactly where it finds the number of the value's own: the hold has then
+  -- added nothing. It isn't a look
+  abbrev pub count_load_tells : (G → List E) → (G → ℕ) → Step (Option G) → Me (Option G) (View B E) → ℕ → Me (Option G) (View B E) → Type 0
+  count_load_tells entries_of closer_of st me found new = (name : ℕ) (g : G) → me.0.stage ≡ Holding name → me.1 ≡ (0, Some g) ∷ []
+      → (found ≡ length (entries_of g) → new ≡ (with_value_home me.0 name (closer_of g) (entries_of g), [])) × (found ≢ length (entries_of g) → new ≡ me)
+
   -- the swap of the number of entries puts the value home, and the seat has seen its entries. It isn't a look
   abbrev pub count_tells : (G → List E) → (G → ℕ) → Step (Option G) → Me (Option G) (View B E) → ℕ → Me (Option G) (View B E) → Type 0
   count_tells entries_of closer_of st me found new = (name : ℕ) (g : G) → me.0.stage ≡ Holding name → me.1 ≡ (0, Some g) ∷ [] → new ≡ (with_value_home me.0 name (closer_of g) (entries_of g), [])
@@ -44,3 +50,7 @@ module _ {G B E : Type 0} where
   -- the swap that ends a hold in any case: where the seat knew bit 30 to be set, it finds it set
   abbrev pub leave_tells : Step (Option G) → Me (Option G) (View B E) → ℕ → Me (Option G) (View B E) → Type 0
   leave_tells st me found new = IsWord found × (new ≡ (in_stage (with_look me.0 found) Idle, me.1)) × (IsContended me.0.last_word → IsContended found)
+
+  -- the load of a seat that is never there, which tells what is never so
+  abbrev pub never_tells : Step (Option G) → Me (Option G) (View B E) → ℕ → Me (Option G) (View B E) → Type 0
+  never_tells st me found new = ◌≡◌ {A = ℕ} 0 1

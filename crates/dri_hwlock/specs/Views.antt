@@ -81,6 +81,10 @@ module _ {B E : Type 0} where
   abbrev pub spent_view : View B E
   spent_view = record { base = None; context = 0; passes = 0; stage = JoinedAway; seen = []; others_seen = []; looks = 0; last_word = 0; word_before = 0; seats_made = 0; seats_joined = 0 }
 
+  -- a view that no seat has: it has no base, and wasn't joined away
+  abbrev pub no_view : View B E
+  no_view = record spent_view { stage = Idle }
+
   -- how many seats were joined away
   abbrev pub joined_away_in : List (View B E) → ℕ
   joined_away_in [] = 0

@@ -7,7 +7,7 @@ ghost use Rattle.dri_hwlock.specs.Tokens.{id_of, pass_token, left_lightly, hold_
 use crate::answers::Left;
 use crate::guarded::Guarded;
 use crate::lock::{CONTENDED, ENTRY_COUNT, HELD, HwLock, LOCK_WORD, VALUE};
-use crate::rule::{CountSwap, LeaveSwap, LightLeave};
+use crate::rule::{CountLoad, CountSwap, LeaveSwap, LightLeave};
 use crate::tokens::{Grip, Hold, Parting, Pass, Place};
 
 impl<G: Guarded> HwLock<G> {
@@ -104,8 +104,9 @@ impl<G: Guarded> HwLock<G> {
     }
 
     // Puts the value into its slot, and then stores the number of its entries: with that swap it is
-    // home.
-    fn put_home(&self, hold: Hold<G>) -> Place<G>
+    // home. Where the number stands already, since the hold has added nothing, the load that finds
+    // it will do.
+    pub(crate) fn put_home(&self, hold: Hold<G>) -> Place<G>
         requires own { hold.grip.seat.table_id ≡ self.now.table.shared.table_id }
         requires base { KeepsBase hold }
         requires adds { AddsOwn hold }
@@ -126,6 +127,10 @@ impl<G: Guarded> HwLock<G> {
         let count = value.count();
         let empty = self.table.shared.exchange(&mut seat, VALUE, Some(value));
         let None = empty else { unreachable!() };
+        let found = self.table.shared.load::<CountLoad>(&mut seat, ENTRY_COUNT);
+        if found == count {
+            return seat;
+        }
         self.table
             .shared
             .swap::<CountSwap>(&mut seat, ENTRY_COUNT, count);

@@ -68,6 +68,15 @@ impl<G, B, E> Play<Option<G>, View<B, E>> for MarkExchange {
     ghost then = { mark_tells };
 }
 
+/// A load of the number of entries, with which the value comes home where the hold has added nothing.
+pub struct CountLoad;
+
+impl<G: Guarded> Play<Option<G>, View<G::Base, G::Entry>> for CountLoad {
+    ghost use Rattle.dri_hwlock.specs.Steps.{count_load_tells};
+
+    ghost then = { count_load_tells G.entries_of G.closer_of };
+}
+
 /// The swap of the number of entries, with which the value comes home.
 pub struct CountSwap;
 
@@ -115,4 +124,24 @@ impl<B, E> Join<View<B, E>> for JoinSeats {
     ghost both = { with_joined };
 
     ghost spent = { spent_view };
+}
+
+/// Two seats in a hold are joined, which never happens: the view is then one that no seat has.
+pub struct JoinHolders;
+
+impl<B, E> Join<View<B, E>> for JoinHolders {
+    ghost use Rattle.dri_hwlock.specs.Views.{no_view, spent_view};
+
+    ghost both = { λ _ _. no_view };
+
+    ghost spent = { spent_view };
+}
+
+/// A load with a seat of that view, which never happens.
+pub struct LoadOfNoSeat;
+
+impl<G, B, E> Play<Option<G>, View<B, E>> for LoadOfNoSeat {
+    ghost use Rattle.dri_hwlock.specs.Steps.{never_tells};
+
+    ghost then = { never_tells };
 }
