@@ -1,0 +1,64 @@
+//! The program that the benchmark times: parts of the repository, each run a number of times.
+#![tactic(auto)]
+
+mod contend;
+mod opened;
+mod pairs;
+mod tally;
+
+use std::process::ExitCode;
+use std::{env, io};
+
+/// The status of words of no form, and that of want of memory.
+const USAGE: u8 = 2;
+
+const NO_MEMORY: u8 = 7;
+
+/// A part, and how often it is run.
+#[derive(Clone, Copy, Drop)]
+enum Part {
+    Pairs(u32),
+    Contend(u32),
+}
+
+/// The part that the words name; `None` where they are of no form.
+fn part_of(words: &[String]) -> Option<Part> {
+    if words.len() != 2 {
+        return None;
+    }
+    let times = words[1].parse::<u32>().ok()?;
+    match words[0].as_str() {
+        "pairs" => Some(Part::Pairs(times)),
+        "contend" => Some(Part::Contend(times)),
+        _ => None,
+    }
+}
+
+/// The words of the command line, without the program's name.
+fn words_of(rt: &HostRuntime) -> io::Result<Vec<String>> {
+    let mut words = Vec::new(rt.alloc());
+    for word in env::args(rt)?.skip(1) {
+        words.push(word)?;
+    }
+    Ok(words)
+}
+
+/// Runs the part, and prints what its holds have left in the guarded value.
+fn main(rt: HostRuntime) -> io::Result<ExitCode> {
+    let words = words_of(&rt)?;
+    let Some(part) = part_of(words.as_slice()) else {
+        eprintln!(rt; "usage: dri_bench pairs|contend times")?;
+        return Ok(ExitCode::from(USAGE));
+    };
+    let sum = match part {
+        Part::Pairs(times) => pairs::run(&rt, rt.alloc(), times),
+        Part::Contend(times) => contend::run(&rt, rt.alloc(), times),
+    };
+    match sum {
+        Some(sum) => {
+            println!(rt; "{sum}")?;
+            Ok(ExitCode::from(0))
+        }
+        None => Ok(ExitCode::from(NO_MEMORY)),
+    }
+}
