@@ -99,6 +99,7 @@ fn eight_regions(rt: HostRuntime) {
         (0, 7, 0, 0),
     ];
     assert_eq!(rt; regions.count(), 8);
+    regions.linked();
     look_at_entries(&rt, &regions, &entries);
     // Two classes go at once: regions 3 and 4, and region 5.
     assert_eq!(rt; perform(&rt, &mut regions, &Step::Allocate(4), 3).first, 3);

@@ -1,5 +1,5 @@
 -- The list of the regions from the most to the least recently used, as a ring of entries that begins and ends at its head.
-use Rattle.std.specs.Prelude.{◌≡◌, ◌<◌, true, false, Option, Some, None, ℕ, suc, List, map, Bool, ◌==◌, ◌||◌, ◌&&◌, not, nat_lt, if◌then◌else◌}
+use Rattle.std.specs.Prelude.{◌≡◌, ◌<◌, ◌≤◌, true, false, Option, Some, None, ℕ, zero, suc, List, map, Bool, ◌==◌, ◌||◌, ◌&&◌, not, nat_lt, if◌then◌else◌}
 use Rattle.std.specs.List.{range_with_len}
 use Rattle.dri_base.specs.declared.texture.TexRegion.{TexRegion}
 use Rattle.dri_model.specs.Counting.{any_from, least}
@@ -31,6 +31,19 @@ entry n h i = record {
 -- the entries of the ring by their numbers: the n regions and the head
 abbrev pub entries : ℕ → Heap → List TexRegion
 entries n h = map (entry n h) (range_with_len 0 (suc n))
+
+-- the entry that is met after so many steps by next, from the head on, which is entry n
+abbrev pub met : ℕ → (ℕ → TexRegion) → ℕ → ℕ
+met n at zero = n
+met n at (suc k) = (at (met n at k)).next
+
+-- the entries up to the head, entry n, form one list: next and prev undo each other, and from the head on each is met once before the head comes again
+pub record IsOneList (n : ℕ) (at : ℕ → TexRegion) : Type 0 where
+  pub back : (i : ℕ) → i ≤ n → (at (at i).next).prev ≡ i
+  pub onward : (i : ℕ) → i ≤ n → (at (at i).prev).next ≡ i
+  pub each : (i : ℕ) → i ≤ n → (k : ℕ) × (k ≤ n) × (met n at k ≡ i)
+  pub once : (j k : ℕ) → j ≤ n → k ≤ n → met n at j ≡ met n at k → j ≡ k
+  pub round : met n at (suc n) ≡ n
 
 -- region j stands before region k, seen from the ring's head in that direction
 abbrev pub goes : Heap → Direction → ℕ → ℕ → Bool

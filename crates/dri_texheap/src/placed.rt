@@ -59,9 +59,8 @@ fn lose_each(regions: &Regions, local: u32, runs: &mut [Option<Run>])
 }
 
 impl Placed {
-    /// No texture is placed, of textures 1 to 64 or fewer.
+    /// No texture is placed, of textures from 1 on to that number.
     pub fn new(alloc: Global, textures: u32) -> Result<Placed, OutOfMemory>
-        requires { textures ≤ 64 }
         ensures placed { IfOk result (λ placed. placed_of placed ≡ λ t. None) }
         ensures textures { IfOk result (λ placed. length placed ≡ textures) }
     {

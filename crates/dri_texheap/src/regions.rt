@@ -5,7 +5,7 @@
 ghost use Rattle.std.specs.Prelude.{◌≡◌, ◌<◌, ◌≤◌, ℕ, false, true, IsErr, IfOk, IfErr, ◌↔◌};
 ghost use Rattle.dri_model.specs.Heaps.{any_in, is_newer, is_place_for, allocated, touched};
 ghost use Rattle.dri_texheap.specs.RegionStates.{heap_of, IsHeap, IsInside, IsInUse};
-ghost use Rattle.dri_texheap.specs.Ring.{entry, foremost, goes, follows};
+ghost use Rattle.dri_texheap.specs.Ring.{IsOneList, entry, foremost, goes, follows};
 
 use crate::choice::choose;
 use crate::links::{Direction, link};
@@ -99,6 +99,12 @@ impl Regions {
             age: self.ages[i as usize],
         }
     }
+
+    /// The entries form one list: `next` and `prev` undo each other, and from the head on each entry is met once. It does
+    /// nothing: its contract is the law.
+    pub fn linked(&self)
+        ensures { IsOneList self.now.count (entry self.now.count (heap_of self.now)) }
+    {}
 
     // Whether a region of the run has an age above `local`.
     pub(crate) fn is_any_newer(&self, run: Run, local: u32) -> bool
