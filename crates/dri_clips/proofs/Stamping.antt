@@ -8,10 +8,10 @@ use Rattle.std.proofs.lemmas.List.Elements.{filter-append}
 use Rattle.dri_base.specs.declared.scene.Window.{Window}
 use Rattle.dri_base.specs.Ranges.{IsWithin, WindowInRange}
 use Rattle.dri_model.specs.Counting.{how_many}
-use Rattle.dri_model.specs.Stacks.{is_touched, restamped}
+use Rattle.dri_model.specs.Stacks.{is_touched, restamped, touches}
 use Rattle.dri_clips.specs.declared.layout.Layout.{Layout}
 use Rattle.dri_clips.specs.declared.stamps.Restamped.{Restamped}
-use Rattle.dri_clips.specs.Layouts.{AreLayouts, IsAbsent, IsRestamped}
+use Rattle.dri_clips.specs.Layouts.{AreLayouts, IsAbsent, IsRestamped, SameNumbers}
 use Rattle.dri_clips.proofs.Placing.{origin_absent}
 use Rattle.dri_clips.proofs.Comparing.{same_absent}
 
@@ -118,6 +118,13 @@ touched_none old new l = untouched old.width old.height 0 old.stack new.stack (a
   where
     out : (k : ℕ) → IsWithin 1 64 k → (k == 0) ≡ false
     out k w = ne_eqb k 0 (λ e. omega (arith, w.0))
+
+-- there are 64 numbers that a window may have
+pub touches_most : (width height : ℕ) (old new : List Window) → All WindowInRange old → SameNumbers old new → touches width height old new ≤ 64
+touches_most width height old new ranged same =
+    let gone : IsAbsent 0 old = absent_out 0 old (λ k w. ne_eqb k 0 (λ e. omega (arith, w.0))) ranged in
+    let below = many_most (is_touched width height old new) (untouched width height 0 old new gone ((same 0).0 gone)) 65 (omega arith) in
+    omega (arith, below)
 
 touched_far : (old new : Layout) (n : ℕ) → AreLayouts old new → 65 ≤ n → is_touched old.width old.height old.stack new.stack n ≡ false
 touched_far old new n l far = untouched old.width old.height n old.stack new.stack (absent_out n old.stack out l.before.ranged) (absent_out n new.stack out l.after.ranged)

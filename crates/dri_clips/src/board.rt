@@ -1,15 +1,13 @@
 //! The board. It keeps the window stack, a clip list for each window, and a stamp for each window number.
 
-ghost use Rattle.std.specs.Prelude.{◌≡◌, ◌≤◌, ◌↔◌, None, Some, Err, IfOk, OnOk, OnErr, All, Contains};
+ghost use Rattle.std.specs.Prelude.{ℕ, ◌≡◌, ◌≤◌, ◌↔◌, None, Some, Err, IfOk, OnOk, OnErr, All, Contains};
+ghost use Rattle.dri_base.specs.declared.command.Change.{Change};
 ghost use Rattle.dri_base.specs.Ranges.{InRange, WindowInRange, WindowsInRange, window_numbers};
-ghost use Rattle.dri_model.specs.Stacks.{Refusal, origin, refusal, stack_after, window_in, without_owner};
+ghost use Rattle.dri_model.specs.Stacks.{Refusal, origin, refusal, stack_after, touches, window_in, without_owner};
 ghost use Rattle.dri_clips.specs.declared.change.ChangeFault.TheVariants.{NoWindow, OutOfRange, AlreadyMapped, NotMapped};
 ghost use Rattle.dri_clips.specs.Boards.{AreClipsOf, IsOpening, IsRestacked, is_mapped, stamps_of};
 ghost use Rattle.dri_clips.specs.Layouts.{SameNumbers};
 ghost use Rattle.dri_clips.specs.Paints.{IsTouched};
-
-#[cfg(test)]
-mod tests;
 
 use crate::change::{changed, place_to_change, without_owner};
 use crate::layout::Layout;
@@ -144,10 +142,12 @@ impl Board {
         self.layout.stack.window(at).mapped
     }
 
-    /// How the windows stand: each of them is in range, and no number stands twice. It does nothing: its contract is the
-    /// law.
+    /// How the windows stand: each of them is in range, and no number stands twice. So a change touches at most 64 of
+    /// them, as does a death. It does nothing: its contract is the law.
     pub fn arranged(&self)
-        ensures { WindowsInRange self.now.stack }
+        ensures stack { WindowsInRange self.now.stack }
+        ensures change { (change : Change) → touches self.now.width self.now.height self.now.stack (stack_after change self.now.stack) ≤ 64 }
+        ensures death { (owner : ℕ) → touches self.now.width self.now.height self.now.stack (without_owner owner self.now.stack) ≤ 64 }
     {
         let _layout = &self.layout;
     }

@@ -6,6 +6,8 @@ mod base;
 #[cfg(test)]
 mod card;
 #[cfg(test)]
+mod clips;
+#[cfg(test)]
 mod cmdbuf;
 #[cfg(test)]
 mod context;

@@ -1,7 +1,10 @@
 //! Two windows of 2 by 2 on a screen of 2 by 2: what each change touches, and which changes are refused.
 
-use crate::{Board, ChangeFault, Paint, Touched};
+ghost use Rattle.std.specs.Prelude.{◌≡◌, ◌≤◌, ◌+◌, IfOk};
+ghost use Rattle.dri_leaf_tests.specs.Boards.{HasBoth};
+
 use dri_base::{Change, ClipRect, OutOfMemory, Point, Rgb, Scene, Sequence, Window};
+use dri_clips::{Board, ChangeFault, Paint, Touched};
 use std::alloc::Global;
 use std::test::Fail;
 
@@ -14,7 +17,9 @@ fn grey(level: u8) -> Rgb {
 }
 
 /// A window of 2 by 2 in the screen's corner.
-fn window(number: u32, owner: u32, background: Rgb) -> Window {
+fn window(number: u32, owner: u32, background: Rgb) -> Window
+    ensures { result.number ≡ number }
+{
     Window {
         number,
         x: 0,
@@ -28,7 +33,10 @@ fn window(number: u32, owner: u32, background: Rgb) -> Window {
 }
 
 /// Window 1, which client 1 owns, over window 2.
-fn board(alloc: Global) -> Result<Board, OutOfMemory> {
+fn board(alloc: Global) -> Result<Board, OutOfMemory>
+    ensures both { IfOk result HasBoth }
+    ensures counter { IfOk result (λ board. board.counter ≡ 1) }
+{
     let mut windows = Sequence::new(alloc);
     windows.push(window(1, 1, grey(0x11)))?;
     windows.push(window(2, 0, grey(0x22)))?;
@@ -50,15 +58,27 @@ fn board(alloc: Global) -> Result<Board, OutOfMemory> {
 }
 
 /// Makes a change of a board whose stamps are small.
-fn apply(alloc: Global, board: &mut Board, change: &Change) -> Result<Touched, ChangeFault> {
-    if board.counter > 100 {
-        return Err(ChangeFault::OutOfMemory);
-    }
+fn apply(alloc: Global, board: &mut Board, change: &Change) -> Result<Touched, ChangeFault>
+    requires counter { board.old.counter ≤ 1000 }
+    requires both { HasBoth board.old }
+    ensures counter { board.new.counter ≤ board.old.counter + 64 }
+    ensures both { HasBoth board.new }
+{
+    board.arranged();
     board.apply(alloc, change)
 }
 
+/// Unmaps an owner's windows on a board whose stamps are small.
+fn bury(alloc: Global, board: &mut Board, owner: u32) -> Result<Touched, OutOfMemory>
+    requires counter { board.old.counter ≤ 1000 }
+    requires both { HasBoth board.old }
+    ensures { HasBoth board.new }
+{
+    board.unmap_owner(alloc, owner)
+}
+
 /// A window's stamp, how many rectangles show of it, its corner, and whether it is mapped.
-#[derive(Clone, Copy, Debug, PartialEq, Eq)]
+#[derive(Clone, Copy, PartialEq, Eq)]
 struct Seen {
     stamp: u32,
     rects: usize,
@@ -66,24 +86,34 @@ struct Seen {
     mapped: bool,
 }
 
-fn look_at(board: &Board, number: u32) -> Option<Seen> {
-    board.layout.stack.place(number)?;
-    Some(Seen {
-        stamp: board.stamp(number),
-        rects: board.clips(number).len(),
-        origin: board.origin(number),
-        mapped: board.mapped(number),
-    })
+/// What is seen of both windows.
+fn look_at(board: &Board) -> [Seen; 2]
+    requires { HasBoth board.now }
+{
+    [
+        Seen {
+            stamp: board.stamp(1),
+            rects: board.clips(1).len(),
+            origin: board.origin(1),
+            mapped: board.mapped(1),
+        },
+        Seen {
+            stamp: board.stamp(2),
+            rects: board.clips(2).len(),
+            origin: board.origin(2),
+            mapped: board.mapped(2),
+        },
+    ]
 }
 
 /// What is seen of a window in the screen's corner.
-fn in_corner(stamp: u32, rects: usize, mapped: bool) -> Option<Seen> {
-    Some(Seen {
+fn in_corner(stamp: u32, rects: usize, mapped: bool) -> Seen {
+    Seen {
         stamp,
         rects,
         origin: Point { x: 0, y: 0 },
         mapped,
-    })
+    }
 }
 
 /// Whether both windows are touched and the whole screen is painted in this colour.
@@ -108,13 +138,10 @@ fn stamps_and_paints(rt: HostRuntime) -> Result<(), Fail> {
     let mut board = board(alloc)?;
     let raised = apply(alloc, &mut board, &Change::Raise { window: 2 })?;
     assert!(rt; paints_all(&raised, grey(0x22)));
-    assert!(rt; look_at(&board, 1) == in_corner(2, 0, true));
-    assert!(rt; look_at(&board, 2) == in_corner(3, 1, true));
+    assert!(rt; look_at(&board) == [in_corner(2, 0, true), in_corner(3, 1, true)]);
     let lowered = apply(alloc, &mut board, &Change::Lower { window: 2 })?;
     assert!(rt; paints_all(&lowered, grey(0x11)));
-    assert!(rt; look_at(&board, 1) == in_corner(4, 1, true));
-    assert!(rt; look_at(&board, 2) == in_corner(5, 0, true));
-    board.arranged();
+    assert!(rt; look_at(&board) == [in_corner(4, 1, true), in_corner(5, 0, true)]);
     Ok(())
 }
 
@@ -122,12 +149,9 @@ fn stamps_and_paints(rt: HostRuntime) -> Result<(), Fail> {
 fn death(rt: HostRuntime) -> Result<(), Fail> {
     let alloc = rt.alloc();
     let mut board = board(alloc)?;
-    if board.counter == 1 {
-        let died = board.unmap_owner(alloc, 1)?;
-        assert!(rt; paints_all(&died, grey(0x22)));
-    }
-    assert!(rt; look_at(&board, 1) == in_corner(2, 0, false));
-    assert!(rt; look_at(&board, 2) == in_corner(3, 1, true));
+    let died = bury(alloc, &mut board, 1)?;
+    assert!(rt; paints_all(&died, grey(0x22)));
+    assert!(rt; look_at(&board) == [in_corner(2, 0, false), in_corner(3, 1, true)]);
     Ok(())
 }
 
