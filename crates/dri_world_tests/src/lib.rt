@@ -1,11 +1,8 @@
-//! The tests of the laws, of the shared value and its sides, of a client and of the world.
+//! The tests of the laws, and of the world with all that it stands on: its cases make each call of the shared value, of its
+//! sides and of a client.
 #![tactic(auto)]
 
 #[cfg(test)]
-mod driver;
-#[cfg(test)]
 mod meaning;
-#[cfg(test)]
-mod shared;
 #[cfg(test)]
 mod world;

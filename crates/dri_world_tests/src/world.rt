@@ -1,13 +1,13 @@
-//! Scenes that were worked by hand: their journals, and the lock word on the way.
-
-ghost use Rattle.dri_base.specs.Ranges.{InRange};
+//! Scenes that were worked by hand: their journals, the lock word on the way, and pixels of the screen.
 
 use dri_base::{
-    Changes, ClientScript, Clients, Command, Entry, Event, Item, Items, OutOfMemory, Rgb, Rgba,
-    Scene, Sequence, Textures, Triangle, Vertex, Window,
+    Bytes, Change, ClientScript, Clients, Command, Entry, Event, Item, OutOfMemory, Rgb, Rgba,
+    Scene, Sequence, Setting, TexFormat, TexMode, TexShape, Texture, Textures, Triangle, Vertex,
+    Window,
 };
 use dri_world::{Turned, World};
 use std::alloc::Global;
+use std::process::Abort;
 use std::sync::Arc;
 use std::test::Fail;
 
@@ -17,8 +17,20 @@ const RED: Rgb = Rgb { r: 255, g: 0, b: 0 };
 
 const GREEN: Rgb = Rgb { r: 0, g: 255, b: 0 };
 
+const WHITE: Rgb = Rgb {
+    r: 255,
+    g: 255,
+    b: 255,
+};
+
+const GREY: Rgb = Rgb {
+    r: 0x40,
+    g: 0x40,
+    b: 0x40,
+};
+
 /// A triangle, in one hold more after the stale one.
-const ONE_TRIANGLE: [Entry; 10] = [
+const ONE_TRIANGLE: &[Entry] = &[
     Entry::Kernel {
         client: 1,
         found: 1,
@@ -50,7 +62,7 @@ const ONE_TRIANGLE: [Entry; 10] = [
 ];
 
 /// The client dies in its second hold, which is light.
-const DIES: [Entry; 10] = [
+const DIES: &[Entry] = &[
     Entry::Kernel {
         client: 1,
         found: 1,
@@ -76,7 +88,7 @@ const DIES: [Entry; 10] = [
 ];
 
 /// Client 1 leaves by the kernel, since client 2 waits.
-const WAITS: [Entry; 19] = [
+const WAITS: &[Entry] = &[
     Entry::Kernel {
         client: 1,
         found: 1,
@@ -132,7 +144,7 @@ const WAITS: [Entry; 19] = [
 ];
 
 /// Client 1 is killed while it holds.
-const KILLED: [Entry; 17] = [
+const KILLED: &[Entry] = &[
     Entry::Kernel {
         client: 1,
         found: 1,
@@ -179,198 +191,533 @@ const KILLED: [Entry; 17] = [
     Entry::Leave { client: 2 },
 ];
 
-fn clear(colour: Rgb) -> Command {
-    Command::Clear {
-        colour,
-        depth: 65535,
-    }
-}
+/// The window is moved, and the client draws a triangle with its texture and yields.
+const YIELDS: &[Entry] = &[
+    Entry::Change { place: 1 },
+    Entry::Kernel {
+        client: 1,
+        found: 1,
+    },
+    Entry::Stale { client: 1 },
+    Entry::Leave { client: 1 },
+    Entry::Info { client: 1 },
+    Entry::Kernel {
+        client: 1,
+        found: 1,
+    },
+    Entry::Run {
+        client: 1,
+        place: 1,
+    },
+    Entry::Run {
+        client: 1,
+        place: 2,
+    },
+    Entry::Run {
+        client: 1,
+        place: 3,
+    },
+    Entry::Place {
+        client: 1,
+        texture: 1,
+        first: 0,
+        count: 1,
+    },
+    Entry::Emit {
+        client: 1,
+        groups: 127,
+    },
+    Entry::Run {
+        client: 1,
+        place: 4,
+    },
+    Entry::Run {
+        client: 1,
+        place: 5,
+    },
+    Entry::Leave { client: 1 },
+    Entry::Light { client: 1 },
+    Entry::Run {
+        client: 1,
+        place: 6,
+    },
+    Entry::Leave { client: 1 },
+];
 
-fn corner(x: i32, y: i32, colour: Rgba) -> Vertex {
-    Vertex {
-        x,
-        y,
+/// The same, and then the client dies.
+const EACH_ENTRY: &[Entry] = &[
+    Entry::Change { place: 1 },
+    Entry::Kernel {
+        client: 1,
+        found: 1,
+    },
+    Entry::Stale { client: 1 },
+    Entry::Leave { client: 1 },
+    Entry::Info { client: 1 },
+    Entry::Kernel {
+        client: 1,
+        found: 1,
+    },
+    Entry::Run {
+        client: 1,
+        place: 1,
+    },
+    Entry::Run {
+        client: 1,
+        place: 2,
+    },
+    Entry::Run {
+        client: 1,
+        place: 3,
+    },
+    Entry::Place {
+        client: 1,
+        texture: 1,
+        first: 0,
+        count: 1,
+    },
+    Entry::Emit {
+        client: 1,
+        groups: 127,
+    },
+    Entry::Run {
+        client: 1,
+        place: 4,
+    },
+    Entry::Run {
+        client: 1,
+        place: 5,
+    },
+    Entry::Leave { client: 1 },
+    Entry::Light { client: 1 },
+    Entry::Run {
+        client: 1,
+        place: 6,
+    },
+    Entry::Leave { client: 1 },
+    Entry::Light { client: 1 },
+    Entry::Gone { client: 1 },
+];
+
+/// Triangles of the upper left corner, with legs of four pixels.
+const RED_TRIANGLE: Command = Command::Triangle(Triangle {
+    a: Vertex {
+        x: 0,
+        y: 0,
         z: 0,
-        colour,
+        colour: Rgba {
+            r: 255,
+            g: 0,
+            b: 0,
+            a: 255,
+        },
         s: 0,
         t: 0,
-    }
-}
-
-/// The triangle of the upper left corner, with legs of four pixels.
-fn triangle(r: u8, g: u8, b: u8) -> Command {
-    let colour = Rgba { r, g, b, a: 255 };
-    Command::Triangle(Triangle {
-        a: corner(0, 0, colour),
-        b: corner(64, 0, colour),
-        c: corner(0, 64, colour),
-    })
-}
-
-/// A window of a client, of the client's number.
-fn window(number: u32, x: i32, width: u32, height: u32) -> Window {
-    Window {
-        number,
-        x,
+    },
+    b: Vertex {
+        x: 64,
         y: 0,
-        width,
-        height,
-        background: BLACK,
-        owner: number,
-        mapped: true,
-    }
-}
+        z: 0,
+        colour: Rgba {
+            r: 255,
+            g: 0,
+            b: 0,
+            a: 255,
+        },
+        s: 0,
+        t: 0,
+    },
+    c: Vertex {
+        x: 0,
+        y: 64,
+        z: 0,
+        colour: Rgba {
+            r: 255,
+            g: 0,
+            b: 0,
+            a: 255,
+        },
+        s: 0,
+        t: 0,
+    },
+});
 
-/// The script of a client that draws on the window of its own number.
-fn script(alloc: Global, number: u32, commands: &[Command]) -> Result<ClientScript, OutOfMemory> {
-    Ok(ClientScript {
-        number,
-        window: number,
-        textures: Textures::new(alloc),
-        commands: Sequence::from_vec(commands.to_vec(alloc)?),
-    })
-}
+const BLUE_TRIANGLE: Command = Command::Triangle(Triangle {
+    a: Vertex {
+        x: 0,
+        y: 0,
+        z: 0,
+        colour: Rgba {
+            r: 0,
+            g: 0,
+            b: 255,
+            a: 255,
+        },
+        s: 0,
+        t: 0,
+    },
+    b: Vertex {
+        x: 64,
+        y: 0,
+        z: 0,
+        colour: Rgba {
+            r: 0,
+            g: 0,
+            b: 255,
+            a: 255,
+        },
+        s: 0,
+        t: 0,
+    },
+    c: Vertex {
+        x: 0,
+        y: 64,
+        z: 0,
+        colour: Rgba {
+            r: 0,
+            g: 0,
+            b: 255,
+            a: 255,
+        },
+        s: 0,
+        t: 0,
+    },
+});
 
-/// A scene of this screen, with these windows, clients and items.
-fn scene(
-    alloc: Global,
+const WHITE_TRIANGLE: Command = Command::Triangle(Triangle {
+    a: Vertex {
+        x: 0,
+        y: 0,
+        z: 0,
+        colour: Rgba {
+            r: 255,
+            g: 255,
+            b: 255,
+            a: 255,
+        },
+        s: 0,
+        t: 0,
+    },
+    b: Vertex {
+        x: 64,
+        y: 0,
+        z: 0,
+        colour: Rgba {
+            r: 255,
+            g: 255,
+            b: 255,
+            a: 255,
+        },
+        s: 0,
+        t: 0,
+    },
+    c: Vertex {
+        x: 0,
+        y: 64,
+        z: 0,
+        colour: Rgba {
+            r: 255,
+            g: 255,
+            b: 255,
+            a: 255,
+        },
+        s: 0,
+        t: 0,
+    },
+});
+
+const CLEAR_BLACK: Command = Command::Clear {
+    colour: BLACK,
+    depth: 65535,
+};
+
+const CLEAR_RED: Command = Command::Clear {
+    colour: RED,
+    depth: 65535,
+};
+
+const CLEAR_GREEN: Command = Command::Clear {
+    colour: GREEN,
+    depth: 65535,
+};
+
+/// A scene, of which client k draws on window k and may have a texture of one texel; the word after its schedule and after
+/// its rounds, its journal, and pixels of the screen by their places.
+struct Case {
     width: u32,
     height: u32,
-    windows: &[Window],
-    clients: Clients,
-    turns: Items,
-) -> Result<Scene, OutOfMemory> {
+    windows: &'static [Window],
+    texels: &'static [u8],
+    scripts: &'static [&'static [Command]],
+    changes: &'static [Change],
+    turns: &'static [Item],
+    words: [u32; 2],
+    journal: &'static [Entry],
+    pixels: &'static [(usize, Rgb)],
+}
+
+/// A window of the whole screen, of four pixels' sides.
+const WHOLE: Window = Window {
+    number: 1,
+    x: 0,
+    y: 0,
+    width: 4,
+    height: 4,
+    background: BLACK,
+    owner: 1,
+    mapped: true,
+};
+
+/// The left half of a screen of four by two pixels.
+const LEFT: Window = Window {
+    number: 1,
+    x: 0,
+    y: 0,
+    width: 2,
+    height: 2,
+    background: BLACK,
+    owner: 1,
+    mapped: true,
+};
+
+/// The right half.
+const RIGHT: Window = Window {
+    number: 2,
+    x: 2,
+    y: 0,
+    width: 2,
+    height: 2,
+    background: BLACK,
+    owner: 2,
+    mapped: true,
+};
+
+/// The left of a screen's two pixels.
+const PIXEL: Window = Window {
+    number: 1,
+    x: 0,
+    y: 0,
+    width: 1,
+    height: 1,
+    background: BLACK,
+    owner: 1,
+    mapped: true,
+};
+
+const FIRST: Item = Item::Turn { actor: 1 };
+
+const SECOND: Item = Item::Turn { actor: 2 };
+
+const CASES: [Case; 6] = [
+    Case {
+        width: 4,
+        height: 4,
+        windows: &[WHOLE],
+        texels: &[],
+        scripts: &[&[CLEAR_BLACK, RED_TRIANGLE, Command::Swap]],
+        changes: &[],
+        turns: &[],
+        words: [1, 2],
+        journal: ONE_TRIANGLE,
+        pixels: &[(0, RED), (2, RED), (3, BLACK), (5, RED), (6, BLACK)],
+    },
+    Case {
+        width: 4,
+        height: 4,
+        windows: &[WHOLE],
+        texels: &[],
+        scripts: &[&[CLEAR_RED, Command::Swap, Command::Die]],
+        changes: &[],
+        turns: &[],
+        words: [1, 0],
+        journal: DIES,
+        pixels: &[(0, BLACK)],
+    },
+    Case {
+        width: 4,
+        height: 2,
+        windows: &[LEFT, RIGHT],
+        texels: &[],
+        scripts: &[
+            &[CLEAR_RED, BLUE_TRIANGLE, WHITE_TRIANGLE, Command::Swap],
+            &[CLEAR_GREEN, Command::Swap],
+        ],
+        changes: &[],
+        turns: &[
+            FIRST, FIRST, FIRST, FIRST, FIRST, FIRST, FIRST, FIRST, SECOND, SECOND,
+        ],
+        words: [0xC000_0002, 3],
+        journal: WAITS,
+        pixels: &[(0, WHITE), (2, GREEN), (4, WHITE), (7, GREEN)],
+    },
+    Case {
+        width: 4,
+        height: 2,
+        windows: &[LEFT, RIGHT],
+        texels: &[],
+        scripts: &[
+            &[CLEAR_RED, BLUE_TRIANGLE, WHITE_TRIANGLE, Command::Swap],
+            &[CLEAR_GREEN, Command::Swap],
+        ],
+        changes: &[],
+        turns: &[
+            FIRST,
+            FIRST,
+            FIRST,
+            FIRST,
+            FIRST,
+            FIRST,
+            FIRST,
+            FIRST,
+            SECOND,
+            SECOND,
+            Item::Kill { client: 1 },
+            SECOND,
+        ],
+        words: [0x8000_0003, 3],
+        journal: KILLED,
+        pixels: &[(0, BLACK), (2, GREEN)],
+    },
+    Case {
+        width: 2,
+        height: 1,
+        windows: &[PIXEL],
+        texels: &[0x40],
+        scripts: &[&[
+            Command::Set(Setting::TexMode(TexMode::Replace)),
+            Command::Set(Setting::Bind(Some(1))),
+            CLEAR_BLACK,
+            WHITE_TRIANGLE,
+            Command::Swap,
+            Command::Yield,
+        ]],
+        changes: &[Change::Move {
+            window: 1,
+            x: 1,
+            y: 0,
+        }],
+        turns: &[Item::Turn { actor: 0 }],
+        words: [1, 2],
+        journal: YIELDS,
+        pixels: &[(0, BLACK), (1, GREY)],
+    },
+    Case {
+        width: 2,
+        height: 1,
+        windows: &[PIXEL],
+        texels: &[0x40],
+        scripts: &[&[
+            Command::Set(Setting::TexMode(TexMode::Replace)),
+            Command::Set(Setting::Bind(Some(1))),
+            CLEAR_BLACK,
+            WHITE_TRIANGLE,
+            Command::Swap,
+            Command::Yield,
+            Command::Die,
+        ]],
+        changes: &[Change::Move {
+            window: 1,
+            x: 1,
+            y: 0,
+        }],
+        turns: &[Item::Turn { actor: 0 }],
+        words: [1, 0],
+        journal: EACH_ENTRY,
+        pixels: &[(1, BLACK)],
+    },
+];
+
+/// A texture for each texel, of one grey texel.
+fn textures(alloc: Global, texels: &[u8]) -> Result<Textures, OutOfMemory> {
+    let mut textures = Textures::new(alloc);
+    for texel in texels {
+        let mut bytes = Bytes::new(alloc);
+        bytes.push(*texel)?;
+        textures.push(Texture {
+            number: 1,
+            shape: TexShape {
+                format: TexFormat::L8,
+                width: 1,
+                height: 1,
+            },
+            bytes,
+        })?;
+    }
+    Ok(textures)
+}
+
+/// The clients of a case.
+fn clients(alloc: Global, case: &Case) -> Result<Clients, OutOfMemory> {
+    let mut clients = Clients::new(alloc);
+    for (commands, window) in case.scripts.iter().zip(case.windows) {
+        clients.push(ClientScript {
+            number: window.number,
+            window: window.number,
+            textures: textures(alloc, case.texels)?,
+            commands: Sequence::from_vec(commands.to_vec(alloc)?),
+        })?;
+    }
+    Ok(clients)
+}
+
+/// The scene of a case.
+fn scene(alloc: Global, case: &Case) -> Result<Scene, OutOfMemory> {
     Ok(Scene {
-        width,
-        height,
+        width: case.width,
+        height: case.height,
         root: BLACK,
         regions: 1,
         region_size: 256,
-        windows: Sequence::from_vec(windows.to_vec(alloc)?),
-        clients,
-        changes: Changes::new(alloc),
-        turns,
+        windows: Sequence::from_vec(case.windows.to_vec(alloc)?),
+        clients: clients(alloc, case)?,
+        changes: Sequence::from_vec(case.changes.to_vec(alloc)?),
+        turns: Sequence::from_vec(case.turns.to_vec(alloc)?),
     })
 }
 
-/// A client alone on the screen, with no schedule.
-fn alone(alloc: Global, side: u32, commands: &[Command]) -> Result<Scene, OutOfMemory> {
-    let mut clients = Clients::new(alloc);
-    clients.push(script(alloc, 1, commands)?)?;
-    scene(
-        alloc,
-        side,
-        side,
-        &[window(1, 0, side, side)],
-        clients,
-        Items::new(alloc),
-    )
-}
-
-/// Puts turns of one actor last.
-fn push_turns(turns: &mut Items, actor: u32, count: u32) -> Result<(), OutOfMemory> {
-    for _ in 0..count {
-        turns.push(Item::Turn { actor })?;
-    }
-    Ok(())
-}
-
-/// Eight turns of client 1, two of client 2, and then these items.
-fn eight_and_two(alloc: Global, items: &[Item]) -> Result<Items, OutOfMemory> {
-    let mut turns = Items::new(alloc);
-    push_turns(&mut turns, 1, 8)?;
-    push_turns(&mut turns, 2, 2)?;
-    for item in items {
-        turns.push(*item)?;
-    }
-    Ok(turns)
-}
-
-/// Client 1 holds, with its first triangle drawn, and client 2 waits and has marked the word; then these items.
-fn two_clients(alloc: Global, items: &[Item]) -> Result<Scene, OutOfMemory> {
-    let mut clients = Clients::new(alloc);
-    let first = [
-        clear(RED),
-        triangle(0, 0, 255),
-        triangle(255, 255, 255),
-        Command::Swap,
-    ];
-    clients.push(script(alloc, 1, &first)?)?;
-    clients.push(script(alloc, 2, &[clear(GREEN), Command::Swap])?)?;
-    let turns = eight_and_two(alloc, items)?;
-    let windows = [window(1, 0, 2, 2), window(2, 2, 2, 2)];
-    scene(alloc, 4, 2, &windows, clients, turns)
-}
-
-/// The word after the schedule, and the world after the rounds.
-fn played(alloc: Global, scene: Scene) -> Result<(u32, World), OutOfMemory>
-    requires { InRange scene }
-{
+/// Plays a case, and compares the word, the journal and the shared area's word.
+fn played(rt: &impl Abort, alloc: Global, case: &Case) -> Result<World, Fail> {
+    let scene = scene(alloc, case)?;
+    assert!(rt; scene.in_range());
     let mut world = World::new(alloc, Arc::new(alloc, scene)?)?;
     world.run_schedule(alloc)?;
-    let word = world.word();
+    assert!(rt; world.word() == case.words[0]);
     world.finish(alloc)?;
-    Ok((word, world))
+    assert!(rt; world.word() == case.words[1]);
+    assert!(rt; world.sarea(alloc)?.word() == world.word());
+    assert!(rt; world.journal() == case.journal);
+    Ok(world)
+}
+
+/// Compares pixels of the screen.
+fn shows(rt: &impl Abort, world: &World, pixels: &[(usize, Rgb)]) {
+    for (at, colour) in pixels {
+        assert!(rt; world.front().pixels().get(*at).copied() == Some(*colour));
+    }
 }
 
 #[test]
-fn one_triangle(rt: HostRuntime) -> Result<(), Fail> {
-    let commands = [clear(BLACK), triangle(255, 0, 0), Command::Swap];
-    let scene = alone(rt.alloc(), 4, commands.as_slice())?;
-    assert!(rt; scene.in_range());
-    let (_, world) = played(rt.alloc(), scene)?;
-    assert_eq!(rt; world.journal(), ONE_TRIANGLE.as_slice());
+fn worked_scenes(rt: HostRuntime) -> Result<(), Fail> {
+    for case in &CASES {
+        let world = played(&rt, rt.alloc(), case)?;
+        shows(&rt, &world, case.pixels);
+    }
     Ok(())
 }
 
-#[test]
-fn death_by_command(rt: HostRuntime) -> Result<(), Fail> {
-    let commands = [clear(RED), Command::Swap, Command::Die];
-    let scene = alone(rt.alloc(), 2, commands.as_slice())?;
-    assert!(rt; scene.in_range());
-    let (_, world) = played(rt.alloc(), scene)?;
-    assert_eq!(rt; world.journal(), DIES.as_slice());
-    assert_eq!(rt; world.word(), 0);
-    Ok(())
-}
-
-#[test]
-fn waiting_marks_the_word(rt: HostRuntime) -> Result<(), Fail> {
-    let scene = two_clients(rt.alloc(), [].as_slice())?;
-    assert!(rt; scene.in_range());
-    let (word, world) = played(rt.alloc(), scene)?;
-    assert_eq!(rt; world.journal(), WAITS.as_slice());
-    assert_eq!(rt; word, 0xC000_0002);
-    Ok(())
-}
-
-#[test]
-fn death_frees_the_word(rt: HostRuntime) -> Result<(), Fail> {
-    let items = [Item::Kill { client: 1 }, Item::Turn { actor: 2 }];
-    let scene = two_clients(rt.alloc(), items.as_slice())?;
-    assert!(rt; scene.in_range());
-    let (word, world) = played(rt.alloc(), scene)?;
-    assert_eq!(rt; world.journal(), KILLED.as_slice());
-    assert_eq!(rt; word, 0x8000_0003);
-    Ok(())
-}
-
+/// A turn of the server, which has nothing to do, and the first event of the rounds.
 #[test]
 fn one_turn(rt: HostRuntime) -> Result<(), Fail> {
     let alloc = rt.alloc();
-    let scene = alone(alloc, 1, &[clear(BLACK), Command::Swap])?;
+    let scene = scene(alloc, &CASES[0])?;
     assert!(rt; scene.in_range());
     let mut world = World::new(alloc, Arc::new(alloc, scene)?)?;
-    assert_eq!(rt; world.turn(alloc, 0)?, Turned::Passed);
+    assert!(rt; world.turn(alloc, 0)? == Turned::Passed);
     world.finish(alloc)?;
-    assert_eq!(rt;
-        world.events().first().copied(),
-        Some(Event::Kernel {
-            client: 1,
-            found: 1
-        })
-    );
-    assert_eq!(rt; world.front().width(), 1);
-    assert_eq!(rt; world.sarea(alloc)?.word(), world.word());
+    let first = Event::Kernel {
+        client: 1,
+        found: 1,
+    };
+    assert!(rt; world.events().first().copied() == Some(first));
     Ok(())
 }
