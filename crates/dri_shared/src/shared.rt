@@ -103,11 +103,12 @@ impl Shared {
         ServerSide { shared: self }
     }
 
-    /// The entries, in order. They are a hold-run of the scene. No command of it changes a pixel outside its client's
-    /// clips of that moment, each triangle is drawn with its own client's state and texels, and each frame that stood is
-    /// left in its client's clips as it is drawn alone.
+    /// The entries, in order. They are a hold-run of the scene, which is in range. No command of it changes a pixel
+    /// outside its client's clips of that moment, each triangle is drawn with its own client's state and texels, and each
+    /// frame that stood is left in its client's clips as it is drawn alone.
     pub fn journal(&self) -> &[Entry]
         ensures same { result.now ≡ self.now.journal }
+        ensures in_range { InRange self.now.scene }
         ensures run { HoldRun self.now.scene self.now.journal }
         ensures confined { Confined self.now.scene self.now.journal }
         ensures own { Own self.now.scene self.now.journal }

@@ -2,6 +2,9 @@
 use Rattle.dri_meaning.proofs.RunLaws.{confined, own, solo_left}
 use Rattle.dri_shared.proofs.shared.Shared.journal.Goals as goal
 
+pub returns-clause-in_range : goal.returns-clause-in_range
+returns-clause-in_range c = rw (← c.self.view_is) c.self.invariant.scene
+
 pub returns-clause-confined : goal.returns-clause-confined
 returns-clause-confined c = rw (← c.self.view_is) (confined _ _ c.self.invariant.scene c.self.invariant.run)
 
