@@ -6,3 +6,4 @@ mod Owned
 mod Preparing
 mod Steps
 pub mod Telling
+pub mod Openings

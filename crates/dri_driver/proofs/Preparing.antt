@@ -79,6 +79,7 @@ module _ (k : ClientState) (a b : ClientSide) (fits : Fits k (value_at a)) (acts
   emit_step l e ready dirty is entry makes = subst (λ x. IsStep k l a b x) (sym entry) (subst (λ (x : ClientState). IsStep k x a b (Entry_is.Emit k.number (bits k.dirty))) (sym is) (record {
     event = at_triangle k.scene w k.number (next_command k) triangle ∙ (ready_turn k.scene w k.number (textured_with (w.client k.number).state) (ap is_ready (sym fits.part) ∙ ready)
         ∙ (ap (λ p. emit_turn p k.number) (sym fits.part) ∙ rw dirty refl));
+    own = refl;
     made = made k (record k { dirty = no_groups }) a b (Entry_is.Emit k.number (bits k.dirty)) fits makes (record { scene = refl; number = refl; dying = refl }) (by_part k w (λ p. record p { dirty = no_groups }) fits.part);
     acting = inl acts;
     falls = omega (arith, before, after);
@@ -102,6 +103,7 @@ module _ (k : ClientState) (a b : ClientSide) (fits : Fits k (value_at a)) (acts
   place_step l t run e here good holds missing may makes placed entry = subst (λ x. IsStep k l a b x) (sym entry) (record {
     event = at_triangle k.scene w k.number (next_command k) triangle ∙ (ap (triangle_turn k.scene w k.number) legal.1
         ∙ rw legal.2 (ap (λ n. Some (Event_is.Place k.number t (lowest_place k.scene.regions h n (classes_for k.scene.regions h n)) n)) (sym legal.3) ∙ ap (λ f. Some (Event_is.Place k.number t f run.count)) (sym at_lowest)));
+    own = refl;
     made = made k l a b (Entry_is.Place k.number t run.first run.count) fits (subst (λ n. Makes a b (Entry_is.Place n t run.first run.count)) here makes) placed.same
         (same_part (part_of l) (placed_as (part_of k)) placed.place placed.phase placed.stamp (ap copy_of placed.clips) placed.origin placed.state placed.dirty lost (placed.local ∙ ap (λ (x : Heap). x.global) heap) ∙ by_part k w placed_as fits.part);
     acting = inl (placed.phase ∙ acts);

@@ -107,6 +107,7 @@ module _ (k l : ClientState) (a b : ClientSide) (command : Command) (here : clie
       → e ≡ Entry_is.Run k.number k.place → IsStep k l a b e
   run_step e started acts ran makes turn is = subst (λ x. IsStep k l a b x) (sym is) (record {
     event = ap (acting_turn k.scene (world_at a) k.number) next ∙ (turn ∙ ap (λ i. Some (Event_is.Run k.number i)) (ap (λ (p : Private). p.place) (sym fits.part)));
+    own = refl;
     made = ran_made ran makes;
     acting = ⊎_elim (λ on. inl (ran.phase ∙ on)) (λ over. inr (ran.phase ∙ over)) (acts_after command (is_last k.scene k.number k.place));
     falls = ran_falls k l command started acts next ran.same.scene ran.same.number ran.place ran.phase;

@@ -6,6 +6,7 @@ use Rattle.dri_base.specs.declared.journal.Entry.TheVariants as Entry_is
 use Rattle.dri_base.specs.declared.journal.Event.{Event}
 use Rattle.dri_base.specs.declared.journal.Event.TheVariants as Event_is
 use Rattle.dri_meaning.specs.Phases.{In, Over}
+use Rattle.dri_meaning.specs.Runs.{client_of}
 use Rattle.dri_meaning.specs.Turns.{acting_turn}
 use Rattle.dri_meaning.specs.Worlds.{World}
 use Rattle.dri_shared.specs.Sides.{world_at}
@@ -63,9 +64,10 @@ UnlessRan MustLeave P = P
 UnlessRan Dies P = P
 UnlessRan Done P = P
 
--- the client has made the event that is its turn; it may act or must leave, and can add one entry less
+-- the client has made the event that is its turn, as its own entry; it may act or must leave, and can add one entry less
 pub record IsStep (old new : ClientState) (before after : ClientSide) (e : Entry) : Type 0 where
   pub event : next_event old (world_at before) ≡ Some (event_of e)
+  pub own : client_of e ≡ old.number
   pub made : HasMade old new before after e
   pub acting : IsActing new
   pub falls : entries_left new + 1 ≤ entries_left old

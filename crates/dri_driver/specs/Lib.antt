@@ -4,6 +4,7 @@ pub mod Clients
 pub mod Kept
 pub mod Needs
 pub mod Fits
+pub mod Opening
 pub mod Acts
 pub mod Textures
 pub mod Checks

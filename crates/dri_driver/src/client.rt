@@ -7,11 +7,14 @@ ghost use Rattle.std.specs.Prelude.{◌≡◌, ◌⊎◌, Contains, IfOk, false,
 ghost use Rattle.std.specs.Arc.{arc_value};
 ghost use Rattle.dri_base.specs.Ranges.{InRange, client_numbers};
 ghost use Rattle.dri_base.specs.Scenes.{commands_of, script_of};
+ghost use Rattle.dri_base.specs.declared.journal.Entry.TheVariants.{Gone, Info};
 ghost use Rattle.dri_meaning.specs.Effects.{is_last};
 ghost use Rattle.dri_meaning.specs.Phases.{Asking, Dead, Out};
 ghost use Rattle.dri_meaning.specs.Privates.{opening_part};
-ghost use Rattle.dri_shared.specs.Copies.{IsCopyOf, corner};
+ghost use Rattle.dri_shared.specs.Copies.{IsCopyOf, IsToldOf, corner};
+ghost use Rattle.dri_shared.specs.States.{Added, SharedState, world_of};
 ghost use Rattle.dri_driver.specs.Clients.{copy_of, next_command, part_of};
+ghost use Rattle.dri_driver.specs.Fits.{Fits};
 ghost use Rattle.dri_driver.specs.Needs.{need_of};
 ghost use Rattle.dri_driver.specs.Shown.{shown_phase};
 
@@ -114,11 +117,13 @@ impl Client {
         3 * commands_ahead(ahead) + 4
     }
 
-    /// It takes in what it is told of its window, whose clips are pixels of the screen, and is out again.
+    /// It takes in what it is told of its window, whose clips are pixels of the screen, and is out again. Told what a
+    /// value's world shows, it fits what the entry leaves, where it fitted the value before.
     pub fn told(&mut self, told: Told)
         requires asking { self.old.phase ≡ Asking }
         requires clips { IsCopyOf told.clips (copy_of told.clips) }
-        ensures { self.new ≡ record self.old { phase = Out; stamp = told.stamp; clips = told.clips; origin = corner told.origin } }
+        ensures state { self.new ≡ record self.old { phase = Out; stamp = told.stamp; clips = told.clips; origin = corner told.origin } }
+        ensures fits { (v w : SharedState) → Fits self.old v → Added v w (Info self.old.number) → IsToldOf v.scene (world_of v) self.old.number told → Fits self.new w }
     {
         let Told {
             stamp,
@@ -140,9 +145,10 @@ impl Client {
         self.is_dying = true;
     }
 
-    /// It has died.
+    /// It has died. It fits what the entry leaves, where it fitted the value before.
     pub fn gone(&mut self)
-        ensures { self.new ≡ record self.old { dying = false; phase = Dead } }
+        ensures state { self.new ≡ record self.old { dying = false; phase = Dead } }
+        ensures fits { (v w : SharedState) → Fits self.old v → Added v w (Gone self.old.number) → Fits self.new w }
     {
         self.is_dying = false;
         self.activity = Activity::Dead;

@@ -6,8 +6,10 @@
 
 mod answers;
 mod client;
+mod opening;
 mod phase;
 
 pub use answers::{Acted, Checked};
 pub use client::Client;
+pub use opening::clients_of;
 pub use phase::Phase;

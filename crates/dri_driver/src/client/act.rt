@@ -3,6 +3,7 @@
 
 ghost use Rattle.std.specs.Prelude.{◌≡◌, ◌≢◌, ◌+◌, ◌≤◌, ◌↔◌, Some};
 ghost use Rattle.dri_meaning.specs.Phases.{In};
+ghost use Rattle.dri_meaning.specs.Runs.{client_of};
 ghost use Rattle.dri_shared.specs.Sides.{client_at, value_at, world_at};
 ghost use Rattle.dri_driver.specs.Acts.{IfRan, IsActing, IsAtDeath, IsAtEnd, IsStep, MustGo, UnlessRan, event_of, next_event};
 ghost use Rattle.dri_driver.specs.Clients.{next_command};
@@ -16,8 +17,8 @@ use dri_base::{Command, Entry, Triangle};
 use dri_shared::ClientSide;
 
 impl Client {
-    /// Makes the one event that is its turn: it places a texture, emits what is dirty, or runs its next command. It must
-    /// leave exactly where it is over and a command is left, it is done exactly where it is over and none is left, and
+    /// Makes the one event that is its turn, whose entry is its own: it places a texture, emits what is dirty, or runs
+    /// its next command. It must leave exactly where it is over and a command is left, it is done exactly where it is over and none is left, and
     /// it dies exactly where its next command is its death; then nothing changes. It is in or over.
     pub fn act(&mut self, side: &mut ClientSide<'_>) -> Acted
         requires acting { IsActing self.old }
@@ -28,6 +29,7 @@ impl Client {
         ensures dies { (result ≡ Acted.Dies) ↔ IsAtDeath self.old }
         ensures done { (result ≡ Acted.Done) ↔ IsAtEnd self.old }
         ensures event { IfRan result (λ e. next_event self.old (world_at side.old) ≡ Some (event_of e)) }
+        ensures own { IfRan result (λ e. client_of e ≡ self.old.number) }
         ensures made { IfRan result (HasMade self.old self.new side.old side.new) }
         ensures acting { IfRan result (λ e. IsActing self.new) }
         ensures falls { IfRan result (λ e. entries_left self.new + 1 ≤ entries_left self.old) }

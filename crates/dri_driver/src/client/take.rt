@@ -99,7 +99,7 @@ impl Client {
     }
 
     /// It leaves the lock: to ask, where it said that its stamp is old; else it is out, or has ended where no command is
-    /// left.
+    /// left. The context that has left is its own.
     pub fn leave(&mut self, side: &mut ClientSide<'_>)
         requires client { client_at side.old ≡ self.old.number }
         requires fits { Fits self.old (value_at side.old) }
@@ -107,6 +107,7 @@ impl Client {
         requires legal { MayMake side.old (Leave self.old.number) }
         ensures made { HasMade self.old self.new side.old side.new (Leave self.old.number) }
         ensures phase { self.new.phase ≡ after_leave self.old.scene self.old.number (part_of self.old) }
+        ensures left { (world_at side.new).left ≡ self.old.number + 1 }
     {
         let is_last = self.is_last(self.place - 1);
         side.leave();

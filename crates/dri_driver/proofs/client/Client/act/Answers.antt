@@ -13,6 +13,7 @@ returns-in_default-Some c =
       dies = (λ e. absurd (cc), λ m. absurd (c.go_on.ensures.living m.1));
       done = (λ e. absurd (cc), λ m. absurd (not_over (sym c.go_on.ensures.acting ∙ m.0)));
       event = step.event;
+      own = step.own;
       made = step.made;
       acting = step.acting;
       falls = step.falls;
