@@ -256,11 +256,11 @@ part_of bytes = begun bytes >>= λ b. Ok (b.scene, b.part)
 unfoldable pub scene_of : List ℕ → Result Scene Refusal
 scene_of bytes = begun bytes >>= λ b. after_done (b.part.lines + 1) b.scene b.rest
 
--- a line leads to what the definition says, unless memory ran out
-abbrev pub Leads : {A : Type 0} → Result A Stop → Result A Reason → Type 0
-Leads (Ok x) read = read ≡ Ok x
-Leads (Err (stops.Refused reason)) read = read ≡ Err reason
-Leads (Err stops.OutOfMemory) read = Unit {0}
+-- a step on a reading leads to what the definition says, unless memory ran out
+abbrev pub Leads : {A : Type 0} → Result A Stop → Result Reading Reason → Reading → Type 0
+Leads (Ok x) read r = read ≡ Ok r
+Leads (Err (stops.Refused reason)) read r = read ≡ Err reason
+Leads (Err stops.OutOfMemory) read r = Unit {0}
 
 -- why line n leads no further
 abbrev pub fault_at : ℕ → Stop → SceneFault

@@ -4,7 +4,7 @@ ghost use Rattle.std.specs.Prelude.{◌≡◌};
 ghost use Rattle.dri_scene.specs.Forms.{plain_change_of, move_of, resize_of, item_in, item_of, change_of};
 ghost use Rattle.dri_scene.specs.declared.form.ChangeForm.TheVariants as changes;
 
-use crate::form::{ChangeForm, Form, ItemForm, number_in};
+use crate::form::{ChangeForm, Form, ItemForm, is_word, number_in};
 use dri_words::{Parts, alone, number};
 
 /// `map W`
@@ -105,17 +105,17 @@ fn item_of<'a>(word: &'a [u8], fields: Parts<'a>) -> Option<Form<'a>>
 pub fn change_of<'a>(name: &'a [u8], fields: Parts<'a>) -> Option<Form<'a>>
     ensures { result ≡ change_of name.now fields.entry }
 {
-    if name == b"map".as_slice() {
+    if is_word(name, b"map") {
         map(fields)
-    } else if name == b"unmap".as_slice() {
+    } else if is_word(name, b"unmap") {
         unmap(fields)
-    } else if name == b"move".as_slice() {
+    } else if is_word(name, b"move") {
         move_to(fields)
-    } else if name == b"resize".as_slice() {
+    } else if is_word(name, b"resize") {
         resize(fields)
-    } else if name == b"raise".as_slice() {
+    } else if is_word(name, b"raise") {
         raise(fields)
-    } else if name == b"lower".as_slice() {
+    } else if is_word(name, b"lower") {
         lower(fields)
     } else {
         item_of(name, fields)

@@ -5,7 +5,7 @@ ghost use Rattle.std.specs.Option.{option_map};
 ghost use Rattle.dri_scene.specs.Forms.{shade_of, depth_func_of, switch_of, blend_of, tex_mode_of, wrap_of, plain_of, bind_of, corners_of, scissor_of, setting_of, set_of, clear_of, corner_at, triangle_of, command_of};
 
 use crate::change_form::change_of;
-use crate::form::{CommandForm, CornerForm, Form, ScissorForm, SettingForm, number_in};
+use crate::form::{CommandForm, CornerForm, Form, ScissorForm, SettingForm, is_word, number_in};
 use dri_base::{Blend, DepthFunc, Shade, TexMode, Wrap};
 use dri_words::{Parts, alone, colour, colour_alpha, number, word};
 
@@ -14,9 +14,9 @@ use dri_words::{Parts, alone, colour, colour_alpha, number, word};
 fn shade_of(word: &[u8]) -> Option<Shade>
     ensures { result ≡ shade_of word.now }
 {
-    if word == b"flat".as_slice() {
+    if is_word(word, b"flat") {
         Some(Shade::Flat)
-    } else if word == b"smooth".as_slice() {
+    } else if is_word(word, b"smooth") {
         Some(Shade::Smooth)
     } else {
         None
@@ -28,21 +28,21 @@ fn shade_of(word: &[u8]) -> Option<Shade>
 fn depth_func_of(word: &[u8]) -> Option<DepthFunc>
     ensures { result ≡ depth_func_of word.now }
 {
-    if word == b"never".as_slice() {
+    if is_word(word, b"never") {
         Some(DepthFunc::Never)
-    } else if word == b"less".as_slice() {
+    } else if is_word(word, b"less") {
         Some(DepthFunc::Less)
-    } else if word == b"equal".as_slice() {
+    } else if is_word(word, b"equal") {
         Some(DepthFunc::Equal)
-    } else if word == b"lequal".as_slice() {
+    } else if is_word(word, b"lequal") {
         Some(DepthFunc::LessEqual)
-    } else if word == b"greater".as_slice() {
+    } else if is_word(word, b"greater") {
         Some(DepthFunc::Greater)
-    } else if word == b"notequal".as_slice() {
+    } else if is_word(word, b"notequal") {
         Some(DepthFunc::NotEqual)
-    } else if word == b"gequal".as_slice() {
+    } else if is_word(word, b"gequal") {
         Some(DepthFunc::GreaterEqual)
-    } else if word == b"always".as_slice() {
+    } else if is_word(word, b"always") {
         Some(DepthFunc::Always)
     } else {
         None
@@ -54,9 +54,9 @@ fn depth_func_of(word: &[u8]) -> Option<DepthFunc>
 fn switch_of(word: &[u8]) -> Option<bool>
     ensures { result ≡ switch_of word.now }
 {
-    if word == b"on".as_slice() {
+    if is_word(word, b"on") {
         Some(true)
-    } else if word == b"off".as_slice() {
+    } else if is_word(word, b"off") {
         Some(false)
     } else {
         None
@@ -68,11 +68,11 @@ fn switch_of(word: &[u8]) -> Option<bool>
 fn blend_of(word: &[u8]) -> Option<Blend>
     ensures { result ≡ blend_of word.now }
 {
-    if word == b"off".as_slice() {
+    if is_word(word, b"off") {
         Some(Blend::Off)
-    } else if word == b"alpha".as_slice() {
+    } else if is_word(word, b"alpha") {
         Some(Blend::Alpha)
-    } else if word == b"add".as_slice() {
+    } else if is_word(word, b"add") {
         Some(Blend::Add)
     } else {
         None
@@ -84,11 +84,11 @@ fn blend_of(word: &[u8]) -> Option<Blend>
 fn tex_mode_of(word: &[u8]) -> Option<TexMode>
     ensures { result ≡ tex_mode_of word.now }
 {
-    if word == b"off".as_slice() {
+    if is_word(word, b"off") {
         Some(TexMode::Off)
-    } else if word == b"replace".as_slice() {
+    } else if is_word(word, b"replace") {
         Some(TexMode::Replace)
-    } else if word == b"modulate".as_slice() {
+    } else if is_word(word, b"modulate") {
         Some(TexMode::Modulate)
     } else {
         None
@@ -100,9 +100,9 @@ fn tex_mode_of(word: &[u8]) -> Option<TexMode>
 fn wrap_of(word: &[u8]) -> Option<Wrap>
     ensures { result ≡ wrap_of word.now }
 {
-    if word == b"repeat".as_slice() {
+    if is_word(word, b"repeat") {
         Some(Wrap::Repeat)
-    } else if word == b"clamp".as_slice() {
+    } else if is_word(word, b"clamp") {
         Some(Wrap::Clamp)
     } else {
         None
@@ -114,17 +114,17 @@ fn wrap_of(word: &[u8]) -> Option<Wrap>
 fn plain_of(name: &[u8], word: &[u8]) -> Option<SettingForm>
     ensures { result ≡ plain_of name.now word.now }
 {
-    if name == b"shade".as_slice() {
+    if is_word(name, b"shade") {
         Some(SettingForm::Shade(shade_of(word)?))
-    } else if name == b"depth".as_slice() {
+    } else if is_word(name, b"depth") {
         Some(SettingForm::DepthFunc(depth_func_of(word)?))
-    } else if name == b"write".as_slice() {
+    } else if is_word(name, b"write") {
         Some(SettingForm::DepthWrite(switch_of(word)?))
-    } else if name == b"blend".as_slice() {
+    } else if is_word(name, b"blend") {
         Some(SettingForm::Blend(blend_of(word)?))
-    } else if name == b"texmode".as_slice() {
+    } else if is_word(name, b"texmode") {
         Some(SettingForm::TexMode(tex_mode_of(word)?))
-    } else if name == b"wrap".as_slice() {
+    } else if is_word(name, b"wrap") {
         Some(SettingForm::Wrap(wrap_of(word)?))
     } else {
         None
@@ -136,7 +136,7 @@ fn plain_of(name: &[u8], word: &[u8]) -> Option<SettingForm>
 fn bind_of(word: &[u8]) -> Option<SettingForm>
     ensures { result ≡ bind_of word.now }
 {
-    if word == b"none".as_slice() {
+    if is_word(word, b"none") {
         return Some(SettingForm::Bind(None));
     }
     let texture = number_in(word)?;
@@ -163,7 +163,7 @@ fn corners_of(word: &[u8], fields: Parts<'_>) -> Option<SettingForm>
 fn scissor_of(word: &[u8], fields: Parts<'_>) -> Option<SettingForm>
     ensures { result ≡ scissor_of word.now fields.entry }
 {
-    if word == b"none".as_slice() {
+    if is_word(word, b"none") {
         alone(SettingForm::Scissor(None), fields)
     } else {
         corners_of(word, fields)
@@ -175,9 +175,9 @@ fn scissor_of(word: &[u8], fields: Parts<'_>) -> Option<SettingForm>
 fn setting_of(name: &[u8], word: &[u8], fields: Parts<'_>) -> Option<SettingForm>
     ensures { result ≡ setting_of name.now word.now fields.entry }
 {
-    if name == b"bind".as_slice() {
+    if is_word(name, b"bind") {
         alone(bind_of(word)?, fields)
-    } else if name == b"scissor".as_slice() {
+    } else if is_word(name, b"scissor") {
         scissor_of(word, fields)
     } else {
         alone(plain_of(name, word)?, fields)
@@ -245,17 +245,17 @@ fn triangle<'a>(fields: Parts<'a>) -> Option<Form<'a>>
 pub fn command_of<'a>(name: &'a [u8], fields: Parts<'a>) -> Option<Form<'a>>
     ensures { result ≡ command_of name.now fields.entry }
 {
-    if name == b"set".as_slice() {
+    if is_word(name, b"set") {
         set(fields)
-    } else if name == b"clear".as_slice() {
+    } else if is_word(name, b"clear") {
         clear(fields)
-    } else if name == b"triangle".as_slice() {
+    } else if is_word(name, b"triangle") {
         triangle(fields)
-    } else if name == b"swap".as_slice() {
+    } else if is_word(name, b"swap") {
         alone(Form::Command(CommandForm::Swap), fields)
-    } else if name == b"yield".as_slice() {
+    } else if is_word(name, b"yield") {
         alone(Form::Command(CommandForm::Yield), fields)
-    } else if name == b"die".as_slice() {
+    } else if is_word(name, b"die") {
         alone(Form::Command(CommandForm::Die), fields)
     } else {
         change_of(name, fields)

@@ -29,7 +29,7 @@ impl From<OutOfMemory> for SceneFault {
 }
 
 /// Why a line leads no further.
-#[derive(Clone, Copy, Debug, PartialEq, Eq)]
+#[derive(Clone, Copy)]
 pub enum Stop {
     /// The line is refused.
     Refused(Reason),

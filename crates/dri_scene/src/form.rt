@@ -2,6 +2,7 @@
 //! range; which forms may stand at a place of the text is decided later.
 
 ghost use Rattle.std.specs.Prelude.{◌≡◌};
+ghost use Rattle.std.specs.Str.{bytes_eq};
 ghost use Rattle.dri_scene.specs.Forms.{number_in};
 
 use dri_base::{Blend, DepthFunc, Rgb, Rgba, Shade, TexFormat, TexMode, Wrap};
@@ -9,7 +10,7 @@ use dri_words::{Parts, alone, number};
 use std::marker::Model;
 
 /// The hexadecimal digits of an image. Contracts see them as the list of their bytes.
-#[derive(Debug, Drop)]
+#[derive(Drop)]
 pub struct Digits<'a> {
     digits: &'a [u8],
 }
@@ -39,7 +40,7 @@ impl<'a> Digits<'a> {
 }
 
 /// `window` and the numbers of a window line.
-#[derive(Clone, Copy, Debug)]
+#[derive(Clone, Copy)]
 pub struct WindowForm {
     pub number: i64,
     pub x: i64,
@@ -52,7 +53,7 @@ pub struct WindowForm {
 }
 
 /// `texture`: its number, its shape, and the digits of its image.
-#[derive(Debug, Drop)]
+#[derive(Drop)]
 pub struct TextureForm<'a> {
     pub number: i64,
     pub format: TexFormat,
@@ -62,7 +63,7 @@ pub struct TextureForm<'a> {
 }
 
 /// A corner of a triangle.
-#[derive(Clone, Copy, Debug)]
+#[derive(Clone, Copy)]
 pub struct CornerForm {
     pub x: i64,
     pub y: i64,
@@ -73,7 +74,7 @@ pub struct CornerForm {
 }
 
 /// The four numbers of a scissor.
-#[derive(Clone, Copy, Debug)]
+#[derive(Clone, Copy)]
 pub struct ScissorForm {
     pub x1: i64,
     pub y1: i64,
@@ -82,7 +83,7 @@ pub struct ScissorForm {
 }
 
 /// What stands behind `set`.
-#[derive(Clone, Copy, Debug)]
+#[derive(Clone, Copy)]
 pub enum SettingForm {
     Shade(Shade),
     DepthFunc(DepthFunc),
@@ -95,7 +96,7 @@ pub enum SettingForm {
 }
 
 /// A command of a client.
-#[derive(Clone, Copy, Debug)]
+#[derive(Clone, Copy)]
 pub enum CommandForm {
     Set(SettingForm),
     Clear {
@@ -113,7 +114,7 @@ pub enum CommandForm {
 }
 
 /// A change of the server.
-#[derive(Clone, Copy, Debug)]
+#[derive(Clone, Copy)]
 pub enum ChangeForm {
     Map {
         window: i64,
@@ -140,7 +141,7 @@ pub enum ChangeForm {
 }
 
 /// An item of the schedule: `s`, a client's number, or `x` before one.
-#[derive(Clone, Copy, Debug)]
+#[derive(Clone, Copy)]
 pub enum ItemForm {
     Server,
     Turn { client: i64 },
@@ -148,7 +149,7 @@ pub enum ItemForm {
 }
 
 /// A line, with its numbers as they are written.
-#[derive(Debug, Drop)]
+#[derive(Drop)]
 pub enum Form<'a> {
     Title,
     Screen { width: i64, height: i64, root: Rgb },
@@ -171,4 +172,11 @@ pub fn number_in(word: &[u8]) -> Option<i64>
 {
     let (number, rest) = number(Parts::new(word, b' '))?;
     alone(number, rest)
+}
+
+/// Whether a word is this name.
+pub fn is_word(word: &[u8], name: &[u8]) -> bool
+    ensures { result ≡ bytes_eq word.now name.now }
+{
+    word == name
 }

@@ -6,7 +6,7 @@ ghost use Rattle.dri_words.specs.Parts.{parts_at};
 ghost use Rattle.dri_scene.specs.Forms.{is_hex_digit, is_image, title_of, screen_of, heap_of, mapped_of, window_of, client_of, format_of, texture_of, block_of, head_of, form_of};
 
 use crate::command_form::command_of;
-use crate::form::{Digits, Form, TextureForm, WindowForm};
+use crate::form::{Digits, Form, TextureForm, WindowForm, is_word};
 use dri_base::TexFormat;
 use dri_words::{Parts, alone, colour, number, word};
 
@@ -37,7 +37,7 @@ fn title<'a>(fields: Parts<'a>) -> Option<Form<'a>>
     ensures { result ≡ title_of fields.entry }
 {
     let (version, rest) = word(fields)?;
-    if version == b"1".as_slice() {
+    if is_word(version, b"1") {
         alone(Form::Title, rest)
     } else {
         None
@@ -83,9 +83,9 @@ fn heap<'a>(fields: Parts<'a>) -> Option<Form<'a>>
 fn mapped_of(word: &[u8]) -> Option<bool>
     ensures { result ≡ mapped_of word.now }
 {
-    if word == b"up".as_slice() {
+    if is_word(word, b"up") {
         Some(true)
-    } else if word == b"down".as_slice() {
+    } else if is_word(word, b"down") {
         Some(false)
     } else {
         None
@@ -142,9 +142,9 @@ fn client<'a>(fields: Parts<'a>) -> Option<Form<'a>>
 fn format_of(word: &[u8]) -> Option<TexFormat>
     ensures { result ≡ format_of word.now }
 {
-    if word == b"l8".as_slice() {
+    if is_word(word, b"l8") {
         Some(TexFormat::L8)
-    } else if word == b"rgb565".as_slice() {
+    } else if is_word(word, b"rgb565") {
         Some(TexFormat::Rgb565)
     } else {
         None
@@ -183,15 +183,15 @@ fn texture<'a>(fields: Parts<'a>) -> Option<Form<'a>>
 fn block_of<'a>(name: &'a [u8], fields: Parts<'a>) -> Option<Form<'a>>
     ensures { result ≡ block_of name.now fields.entry }
 {
-    if name == b"client".as_slice() {
+    if is_word(name, b"client") {
         client(fields)
-    } else if name == b"texture".as_slice() {
+    } else if is_word(name, b"texture") {
         texture(fields)
-    } else if name == b"server".as_slice() {
+    } else if is_word(name, b"server") {
         alone(Form::Server, fields)
-    } else if name == b"turns".as_slice() {
+    } else if is_word(name, b"turns") {
         alone(Form::Turns, fields)
-    } else if name == b"end".as_slice() {
+    } else if is_word(name, b"end") {
         alone(Form::End, fields)
     } else {
         command_of(name, fields)
@@ -203,15 +203,15 @@ fn block_of<'a>(name: &'a [u8], fields: Parts<'a>) -> Option<Form<'a>>
 fn head_of<'a>(name: &'a [u8], fields: Parts<'a>) -> Option<Form<'a>>
     ensures { result ≡ head_of name.now fields.entry }
 {
-    if name == b"dri".as_slice() {
+    if is_word(name, b"dri") {
         title(fields)
-    } else if name == b"screen".as_slice() {
+    } else if is_word(name, b"screen") {
         screen(fields)
-    } else if name == b"heap".as_slice() {
+    } else if is_word(name, b"heap") {
         heap(fields)
-    } else if name == b"window".as_slice() {
+    } else if is_word(name, b"window") {
         window(fields)
-    } else if name == b"done".as_slice() {
+    } else if is_word(name, b"done") {
         alone(Form::Done, fields)
     } else {
         block_of(name, fields)

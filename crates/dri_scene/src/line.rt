@@ -19,7 +19,7 @@ use dri_base::{
 use dri_words::{signed_within, within};
 
 /// A line of a scene.
-#[derive(Debug, Drop)]
+#[derive(Drop)]
 pub enum Line<'a> {
     Title,
     Screen {

@@ -54,10 +54,9 @@ fn up_to_done<'a>(alloc: Global, bytes: &'a [u8]) -> Result<Begun<'a>, SceneFaul
         if lines.is_empty() {
             break;
         }
-        reading = match after_bytes(reading, alloc, line) {
-            Ok(next) => next,
-            Err(stop) => return Err(fault_at(number, stop)),
-        };
+        if let Err(stop) = after_bytes(&mut reading, alloc, line) {
+            return Err(fault_at(number, stop));
+        }
         taken += line.len() as u32 + 1;
         if is_end(reading.place) {
             return Ok(Begun {

@@ -6,7 +6,7 @@ ghost use Rattle.dri_scene.specs.Places.{place_in_script, place_behind_clients, 
 use crate::form::{CommandForm, Form};
 
 /// Which lines are allowed next.
-#[derive(Clone, Copy, Debug, PartialEq, Eq)]
+#[derive(Clone, Copy)]
 pub enum Place {
     /// `dri 1`
     Title,

@@ -1,6 +1,6 @@
 //! A scene as far as it was read, and how each line takes it on.
 
-ghost use Rattle.std.specs.Prelude.{◌≡◌, ◌≤◌, Ok, true, IfOk};
+ghost use Rattle.std.specs.Prelude.{◌≡◌, ◌≤◌, Ok, true, IfOk, OnOk};
 ghost use Rattle.std.specs.Option.{option_copied};
 ghost use Rattle.dri_words.specs.Parts.{parts_at};
 ghost use Rattle.dri_base.specs.Ranges.{heap_bytes, owner_of};
@@ -100,14 +100,14 @@ fn has_texture(number: u32, textures: &[Texture]) -> bool
 
 /// A window more. Twice: its number was given before.
 #[tactic(auto, unfolding(crate::specs::Readings::with_window))]
-fn with_window(mut reading: Reading, window: Window) -> Result<Reading, Stop>
-    ensures { Leads result (with_window reading window) }
+fn with_window(reading: &mut Reading, window: Window) -> Result<(), Stop>
+    ensures { Leads result (with_window reading.old window) reading.new }
 {
     if has_window(window.number, reading.scene.windows.as_slice()) {
         return Err(Stop::Refused(Reason::Twice));
     }
     reading.scene.windows.push(window)?;
-    Ok(reading)
+    Ok(())
 }
 
 /// Whether the window is there and has this owner.
@@ -124,13 +124,8 @@ fn owns(windows: &[Window], number: u32, client: u32) -> bool
 
 /// A client's block begins. Unknown: the client doesn't own such a window. Order: its number isn't above the last.
 #[tactic(auto, unfolding(crate::specs::Readings::with_client))]
-fn with_client(
-    mut reading: Reading,
-    alloc: Global,
-    number: u32,
-    window: u32,
-) -> Result<Reading, Stop>
-    ensures { Leads result (with_client reading number window) }
+fn with_client(reading: &mut Reading, alloc: Global, number: u32, window: u32) -> Result<(), Stop>
+    ensures { Leads result (with_client reading.old number window) reading.new }
 {
     if !owns(reading.scene.windows.as_slice(), window, number) {
         return Err(Stop::Refused(Reason::Unknown));
@@ -146,7 +141,7 @@ fn with_client(
     };
     reading.last_client = number;
     reading.last_texture = 0;
-    Ok(reading)
+    Ok(())
 }
 
 /// The value of a hexadecimal digit.
@@ -184,13 +179,13 @@ fn heap_bytes(scene: &Scene) -> u64
 /// A texture more. Order: its number isn't above the last. Heap: it has more bytes than all regions together.
 #[tactic(auto, unfolding(crate::specs::Readings::with_texture))]
 fn with_texture(
-    mut reading: Reading,
+    reading: &mut Reading,
     alloc: Global,
     number: u32,
     shape: TexShape,
     image: &[u8],
-) -> Result<Reading, Stop>
-    ensures { Leads result (with_texture reading number shape image.now) }
+) -> Result<(), Stop>
+    ensures { Leads result (with_texture reading.old number shape image.now) reading.new }
 {
     if number <= reading.last_texture {
         return Err(Stop::Refused(Reason::Order));
@@ -205,7 +200,7 @@ fn with_texture(
         bytes,
     })?;
     reading.last_texture = number;
-    Ok(reading)
+    Ok(())
 }
 
 /// Whether the textures that a command names are there.
@@ -220,8 +215,8 @@ fn names_textures(textures: &[Texture], command: &Command) -> bool
 
 /// A command more. Unknown: it binds a texture that isn't there. Limit: it is the 100,001st of all clients.
 #[tactic(auto, unfolding(crate::specs::Readings::with_command))]
-fn with_command(mut reading: Reading, command: Command) -> Result<Reading, Stop>
-    ensures { Leads result (with_command reading command) }
+fn with_command(reading: &mut Reading, command: Command) -> Result<(), Stop>
+    ensures { Leads result (with_command reading.old command) reading.new }
 {
     if !names_textures(reading.script.textures.as_slice(), &command) {
         return Err(Stop::Refused(Reason::Unknown));
@@ -231,7 +226,7 @@ fn with_command(mut reading: Reading, command: Command) -> Result<Reading, Stop>
     }
     reading.script.commands.push(command)?;
     reading.commands += 1;
-    Ok(reading)
+    Ok(())
 }
 
 /// The window that a change names.
@@ -250,8 +245,8 @@ fn window_changed(change: &Change) -> u32
 
 /// A change more. Unknown: its window isn't there. Limit: it is the 4,097th.
 #[tactic(auto, unfolding(crate::specs::Readings::with_change))]
-fn with_change(mut reading: Reading, change: Change) -> Result<Reading, Stop>
-    ensures { Leads result (with_change reading change) }
+fn with_change(reading: &mut Reading, change: Change) -> Result<(), Stop>
+    ensures { Leads result (with_change reading.old change) reading.new }
 {
     if !has_window(window_changed(&change), reading.scene.windows.as_slice()) {
         return Err(Stop::Refused(Reason::Unknown));
@@ -260,7 +255,7 @@ fn with_change(mut reading: Reading, change: Change) -> Result<Reading, Stop>
         return Err(Stop::Refused(Reason::Limit));
     }
     reading.scene.changes.push(change)?;
-    Ok(reading)
+    Ok(())
 }
 
 /// Whether the client that an item names is there; the server always is.
@@ -302,8 +297,8 @@ fn kills_again(items: &[Item], item: &Item) -> bool
 
 /// An item more. Unknown: its client isn't there. Twice: a second kill of one client. Limit: it is the 1,000,001st.
 #[tactic(auto, unfolding(crate::specs::Readings::with_item))]
-fn with_item(mut reading: Reading, item: Item) -> Result<Reading, Stop>
-    ensures { Leads result (with_item reading item) }
+fn with_item(reading: &mut Reading, item: Item) -> Result<(), Stop>
+    ensures { Leads result (with_item reading.old item) reading.new }
 {
     if !names_client(reading.scene.clients.as_slice(), &item) {
         return Err(Stop::Refused(Reason::Unknown));
@@ -315,56 +310,60 @@ fn with_item(mut reading: Reading, item: Item) -> Result<Reading, Stop>
         return Err(Stop::Refused(Reason::Limit));
     }
     reading.scene.turns.push(item)?;
-    Ok(reading)
+    Ok(())
 }
 
 /// A block is whole: a client's block joins the scene.
 #[tactic(auto, unfolding(crate::specs::Readings::with_end))]
-fn with_end(mut reading: Reading, alloc: Global) -> Result<Reading, Stop>
-    ensures { Leads result (Ok (with_end reading)) }
+fn with_end(reading: &mut Reading, alloc: Global) -> Result<(), Stop>
+    ensures { Leads result (Ok (with_end reading.old)) reading.new }
 {
     if !is_in_client(reading.place) {
-        return Ok(reading);
+        return Ok(());
     }
     let script = std::mem::replace(&mut reading.script, no_script(alloc));
     reading.scene.clients.push(script)?;
-    Ok(reading)
+    Ok(())
 }
 
-/// The reading with the numbers of the screen's line.
-fn with_screen(mut reading: Reading, width: u32, height: u32, root: Rgb) -> Reading
-    ensures { result ≡ with_screen reading width height root }
+/// The reading takes the numbers of the screen's line.
+fn with_screen(reading: &mut Reading, width: u32, height: u32, root: Rgb)
+    ensures { reading.new ≡ with_screen reading.old width height root }
 {
     reading.scene.width = width;
     reading.scene.height = height;
     reading.scene.root = root;
-    reading
 }
 
-/// The reading with the numbers of the heap's line.
-fn with_heap(mut reading: Reading, regions: u32, region_size: u32) -> Reading
-    ensures { result ≡ with_heap reading regions region_size }
+/// The reading takes the numbers of the heap's line.
+fn with_heap(reading: &mut Reading, regions: u32, region_size: u32)
+    ensures { reading.new ≡ with_heap reading.old regions region_size }
 {
     reading.scene.regions = regions;
     reading.scene.region_size = region_size;
-    reading
 }
 
 /// The reading takes on a line that may stand at its place.
 #[tactic(auto, unfolding(crate::specs::Readings::taken))]
-fn taken<'a>(reading: Reading, alloc: Global, line: Line<'a>) -> Result<Reading, Stop>
-    ensures { Leads result (taken reading line.entry) }
+fn taken<'a>(reading: &mut Reading, alloc: Global, line: Line<'a>) -> Result<(), Stop>
+    ensures { Leads result (taken reading.old line.entry) reading.new }
 {
     match line {
         Line::Screen {
             width,
             height,
             root,
-        } => Ok(with_screen(reading, width, height, root)),
+        } => {
+            with_screen(reading, width, height, root);
+            Ok(())
+        }
         Line::Heap {
             regions,
             region_size,
-        } => Ok(with_heap(reading, regions, region_size)),
+        } => {
+            with_heap(reading, regions, region_size);
+            Ok(())
+        }
         Line::Window(window) => with_window(reading, window),
         Line::Client { number, window } => with_client(reading, alloc, number, window),
         Line::Texture {
@@ -376,16 +375,16 @@ fn taken<'a>(reading: Reading, alloc: Global, line: Line<'a>) -> Result<Reading,
         Line::Change(change) => with_change(reading, change),
         Line::Item(item) => with_item(reading, item),
         Line::End => with_end(reading, alloc),
-        Line::Title | Line::Server | Line::Turns | Line::Done => Ok(reading),
+        Line::Title | Line::Server | Line::Turns | Line::Done => Ok(()),
     }
 }
 
 /// Takes on a line that isn't passed over: its form and place, then its ranges, then what it does to the scene.
 #[tactic(auto, unfolding(crate::specs::Readings::after_words))]
-fn after_words(reading: Reading, alloc: Global, bytes: &[u8]) -> Result<Reading, Stop>
-    requires { IsSound reading }
-    ensures value { Leads result (after_words reading (parts_at 32 bytes.now)) }
-    ensures sound { IfOk result IsSound }
+fn after_words(reading: &mut Reading, alloc: Global, bytes: &[u8]) -> Result<(), Stop>
+    requires { IsSound reading.old }
+    ensures value { Leads result (after_words reading.old (parts_at 32 bytes.now)) reading.new }
+    ensures sound { OnOk result (IsSound reading.new) }
 {
     let Some(form) = form_of(bytes) else {
         return Err(Stop::Refused(Reason::Shape));
@@ -396,9 +395,9 @@ fn after_words(reading: Reading, alloc: Global, bytes: &[u8]) -> Result<Reading,
     let Some(line) = line_in(form) else {
         return Err(Stop::Refused(Reason::Range));
     };
-    let mut next = taken(reading, alloc, line)?;
-    next.place = place;
-    Ok(next)
+    taken(reading, alloc, line)?;
+    reading.place = place;
+    Ok(())
 }
 
 /// Whether a line is passed over: it is empty, or begins with `#`.
@@ -413,13 +412,13 @@ pub fn is_passed_over(bytes: &[u8]) -> bool
 
 /// Takes on a line's bytes.
 #[tactic(auto, unfolding(crate::specs::Readings::after_bytes))]
-pub fn after_bytes(reading: Reading, alloc: Global, bytes: &[u8]) -> Result<Reading, Stop>
-    requires { IsSound reading }
-    ensures value { Leads result (after_bytes reading bytes.now) }
-    ensures sound { IfOk result IsSound }
+pub fn after_bytes(reading: &mut Reading, alloc: Global, bytes: &[u8]) -> Result<(), Stop>
+    requires { IsSound reading.old }
+    ensures value { Leads result (after_bytes reading.old bytes.now) reading.new }
+    ensures sound { OnOk result (IsSound reading.new) }
 {
     if is_passed_over(bytes) {
-        return Ok(reading);
+        return Ok(());
     }
     after_words(reading, alloc, bytes)
 }
