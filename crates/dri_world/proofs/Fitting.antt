@@ -1,6 +1,6 @@
 -- A client and the shared value after one entry more.
 use Rattle.std.proofs.Common.{◌≡◌, ℕ, Bool, true, false, Option, Some, None, arith, refl, sym, ap, ◌∙◌, subst}
-use Rattle.std.specs.Prelude.{pos, not, ◌==◌, ◌&&◌, if◌then◌else◌}
+use Rattle.std.specs.Prelude.{not, ◌==◌, ◌&&◌, if◌then◌else◌}
 use Rattle.std.proofs.lemmas.Bool.{true≢false}
 use Rattle.std.proofs.lemmas.Bool.Decides.{nat_tests}
 use Rattle.dri_base.specs.declared.command.Command.{Command}
@@ -16,17 +16,13 @@ use Rattle.dri_driver.specs.declared.answers.Acted.{Acted}
 use Rattle.dri_driver.specs.declared.answers.Acted.TheVariants.{Ran, MustLeave, Dies, Done}
 use Rattle.dri_shared.specs.Sides.{value_at}
 use Rattle.dri_shared.specs.declared.client_side.ClientSide.{ClientSide}
-use Rattle.dri_driver.specs.Clients.{ClientState, copy_of, part_of}
+use Rattle.dri_driver.specs.Clients.{ClientState}
 use Rattle.dri_driver.specs.Fits.{Fits, HasMade, IsSameClient}
-use Rattle.dri_meaning.specs.Effects as Effects
-use Rattle.dri_meaning.specs.EntryTable.{after_entry}
 use Rattle.dri_meaning.specs.EventTable.{leaves}
 use Rattle.dri_meaning.specs.Phases as Phase_is
-use Rattle.dri_meaning.specs.Privates.{Private, textured_with}
+use Rattle.dri_meaning.specs.Privates.{textured_with}
 use Rattle.dri_meaning.specs.Turns.{acting_turn, emit_turn, triangle_turn}
-use Rattle.dri_meaning.specs.Worlds.{World, clips_in}
-use Rattle.dri_meaning.proofs.Laws.{after-push}
-use Rattle.dri_meaning.proofs.Parts.{put_here}
+use Rattle.dri_meaning.specs.Worlds.{World}
 use Rattle.dri_model.specs.Groups.{is_empty, bits}
 use Rattle.dri_model.specs.Heaps as Heaps
 use Rattle.dri_shared.specs.Copies.{IsToldOf, corner}
@@ -35,65 +31,34 @@ use Rattle.dri_shared.specs.declared.answers.Told.{Told}
 use Rattle.dri_world.specs.Turns.{Brings, IsSeated}
 use Rattle.dri_world.specs.declared.lock.Lock.{Lock}
 
--- the world after an entry more
-pub world_added : (v v' : SharedState) (e : Entry) → Added v v' e → world_of v' ≡ after_entry v.scene (world_of v) e
-world_added v v' e added = rw (added.scene, added.journal) (after-push v.scene v.journal e)
-
--- a client that died fits
-pub gone_fits : (v v' : SharedState) (k k' : ClientState) (c : ℕ) → k.number ≡ c → Fits k v → Added v v' (Entry_is.Gone c) → k' ≡ record k { dying = false; phase = Phase_is.Dead } → Fits k' v'
-gone_fits v v' k k' c numbered fits added is = subst (λ t. Fits t v') (sym is) (record {
-  scene = fits.scene ∙ sym added.scene;
-  part = ap (λ (p : Private). record p { phase = Phase_is.Dead }) fits.part ∙ sym there;
-})
-  where
-    there : (world_of v').client k.number ≡ record ((world_of v).client k.number) { phase = Phase_is.Dead }
-    there = ap (λ (w : World). w.client k.number) (world_added v v' (Entry_is.Gone c) added) ∙ rw numbered (put_here (world_of v).client c (record ((world_of v).client c) { phase = Phase_is.Dead }))
-
-pub gone_brings : (v v' : SharedState) (l l' : Lock) (k k' : ClientState) (c : ℕ) → IsSeated v k c → Added v v' (Entry_is.Gone c) → k' ≡ record k { dying = false; phase = Phase_is.Dead } →
+-- a client that died
+pub gone_brings : (v v' : SharedState) (l l' : Lock) (k k' : ClientState) (c : ℕ) → IsSeated v k c → Added v v' (Entry_is.Gone c) → k' ≡ record k { dying = false; phase = Phase_is.Dead } → (Fits k v → Added v v' (Entry_is.Gone k.number) → Fits k' v') →
     l'.word ≡ record { held = false; contended = false; context = 0 } → l'.queue ≡ leaves c l.queue → Brings (Some (Gone c)) v v' l l' k k'
-gone_brings v v' l l' k k' c seated added is word queue = record {
+gone_brings v v' l l' k k' c seated added is fits word queue = record {
   scene = added.scene;
   journal = added.journal;
   word = word;
   queue = queue;
   numbered = ap (λ t. t.number) is;
-  fits = gone_fits v v' k k' c seated.numbered seated.fits added is;
+  fits = fits seated.fits (subst (λ n. Added v v' (Entry_is.Gone n)) (sym seated.numbered) added);
   dying = ap (λ t. t.dying) is ∙ sym (rw seated.numbered (over c k.dying));
 }
   where
     over : (n : ℕ) (b : Bool) → (not (n == n) && b) ≡ false
     over n b = grind (arith, nat_tests)
 
--- a client that was told what its window shows fits
-pub told_fits : (v v' : SharedState) (k k' : ClientState) (c : ℕ) (news : Told) → k.number ≡ c → Fits k v → Added v v' (Entry_is.Info c) → IsToldOf v.scene (world_of v) c news →
-    k' ≡ record k { phase = Phase_is.Out; stamp = news.stamp; clips = news.clips; origin = corner news.origin } → Fits k' v'
-told_fits v v' k k' c news numbered fits added tells is = subst (λ t. Fits t v') (sym is) (record {
-  scene = fits.scene ∙ sym added.scene;
-  part = mine ∙ sym there;
-})
-  where
-    clips : copy_of news.clips ≡ clips_in v.scene (world_of v) c
-    clips = λ i x y. tells.copy (pos x) (pos y) i
-
-    mine : record (part_of k) { phase = Phase_is.Out; stamp = news.stamp; copy = copy_of news.clips; origin = corner news.origin } ≡ Effects.told v.scene (world_of v) c
-    mine = ap (λ (p : Private). record p { phase = Phase_is.Out; stamp = news.stamp; copy = copy_of news.clips; origin = corner news.origin }) (fits.part ∙ ap (world_of v).client numbered)
-        ∙ ap (λ n. record ((world_of v).client c) { phase = Phase_is.Out; stamp = n; copy = copy_of news.clips; origin = corner news.origin }) tells.stamp
-        ∙ ap (λ f. record ((world_of v).client c) { phase = Phase_is.Out; stamp = (Effects.told v.scene (world_of v) c).stamp; copy = f; origin = corner news.origin }) clips
-        ∙ ap (λ o. record ((world_of v).client c) { phase = Phase_is.Out; stamp = (Effects.told v.scene (world_of v) c).stamp; copy = clips_in v.scene (world_of v) c; origin = o }) tells.place
-
-    there : (world_of v').client k.number ≡ Effects.told v.scene (world_of v) c
-    there = ap (λ (w : World). w.client k.number) (world_added v v' (Entry_is.Info c) added) ∙ rw numbered (put_here (world_of v).client c (Effects.told v.scene (world_of v) c))
-
+-- a client that was told what its window shows
 pub told_brings : (v v' : SharedState) (l l' : Lock) (k k' : ClientState) (c : ℕ) (news : Told) → IsSeated v k c → Added v v' (Entry_is.Info c) → IsToldOf v.scene (world_of v) c news →
     k' ≡ record k { phase = Phase_is.Out; stamp = news.stamp; clips = news.clips; origin = corner news.origin } →
+    (Fits k v → Added v v' (Entry_is.Info k.number) → IsToldOf v.scene (world_of v) k.number news → Fits k' v') →
     l'.word ≡ record { held = false; contended = false; context = 1 } → l'.queue ≡ leaves c l.queue → Brings (Some (Info c)) v v' l l' k k'
-told_brings v v' l l' k k' c news seated added tells is word queue = record {
+told_brings v v' l l' k k' c news seated added tells is fits word queue = record {
   scene = added.scene;
   journal = added.journal;
   word = word;
   queue = queue;
   numbered = ap (λ t. t.number) is;
-  fits = told_fits v v' k k' c news seated.numbered seated.fits added tells is;
+  fits = fits seated.fits (subst (λ n. Added v v' (Entry_is.Info n)) (sym seated.numbered) added) (subst (λ n. IsToldOf v.scene (world_of v) n news) (sym seated.numbered) tells);
   dying = ap (λ t. t.dying) is;
 }
 

@@ -13,6 +13,7 @@ use Rattle.dri_base.specs.declared.journal.Event.TheVariants.{Gone}
 use Rattle.dri_base.specs.declared.scene.Scene.{Scene}
 use Rattle.dri_base.proofs.RangeLemmas.{IsWellFormed, well_formed}
 use Rattle.dri_driver.specs.Clients.{ClientState}
+use Rattle.dri_driver.specs.Opening.{AreOpening, IsOpening}
 use Rattle.dri_meaning.specs.CoreRuns.{IsRun, LegalEvents, after_events}
 use Rattle.dri_meaning.specs.Cores.{Core, Word, entry_of, journal_of, opening_core, with_entry}
 use Rattle.dri_meaning.specs.EventTable.{LegalEvent, after_event, queue_after, word_after, world_after}
@@ -28,11 +29,11 @@ use Rattle.dri_meaning.proofs.Laws.{after-push}
 use Rattle.dri_meaning.proofs.OneTurn.{turns_are_legal}
 use Rattle.dri_meaning.proofs.Rounds.{after_append, kill_legal}
 use Rattle.dri_shared.specs.States.{IsSameRun, SharedState, world_of}
-use Rattle.dri_world.specs.Holding.{AreOpening, HasClients, IsClientOf, IsHeld, IsOpening}
+use Rattle.dri_world.specs.Holding.{HasClients, IsClientOf, IsHeld}
 use Rattle.dri_world.specs.Locks.{core_at}
-use Rattle.dri_world.specs.Turns.{Brings, IsSeated, MayAddIt, MayBring, Serves}
+use Rattle.dri_world.specs.Turns.{Brings, IsSeated, MayAddIt, MayBring, ServerBrings}
 use Rattle.dri_world.specs.declared.lock.Lock.{Lock}
-use Rattle.dri_world.proofs.Places.{apart, pushed_at, some_one, stands, unwritten, written}
+use Rattle.dri_world.proofs.Places.{apart, some_one, stands, unwritten, written}
 use Rattle.dri_world.proofs.Whose.{IsOf, dying_at, kill_is_of, others, others_dying, turn_is_of}
 
 -- more room changes nothing
@@ -270,7 +271,7 @@ module _ (s : Scene) (es : List Event) (v : SharedState) (l : Lock) (ks : List C
       subst (λ t. IsHeld s t v' l' (set ks i k')) (append-nil es) (brought i n k k' v' l' None at_i at_k (λ e h. absurd (grind arith)) tt brings)
 
   -- the server's event, where there is one, keeps the parts
-  served : (v' : SharedState) (l' : Lock) (o : Option Event) → ((e : Event) → o ≡ Some e → LegalEvent s core e) → IsOf 0 o → Serves o v v' l l' → IsHeld s (es ++ one_event o) v' l' ks
+  served : (v' : SharedState) (l' : Lock) (o : Option Event) → ((e : Event) → o ≡ Some e → LegalEvent s core e) → IsOf 0 o → ServerBrings o v v' l l' → IsHeld s (es ++ one_event o) v' l' ks
   served v' l' o legal of serves =
       held_on o v' l' ks legal serves.scene serves.journal (serves.word ∙ word_on o false) (serves.queue ∙ queue_on o false) (record {
         number = held.clients.number;
@@ -280,10 +281,10 @@ module _ (s : Scene) (es : List Event) (v : SharedState) (l : Lock) (ks : List C
       above : (m : ℕ) → 0 < m → m ≢ 0
       above m lt same = omega arith
 
-  pub served_on : (v' : SharedState) (l' : Lock) (o : Option Event) → o ≡ turn s (after_events s (opening_core s) es) 0 → Serves o v v' l l' → IsHeld s (es ++ one_event o) v' l' ks
+  pub served_on : (v' : SharedState) (l' : Lock) (o : Option Event) → o ≡ turn s (after_events s (opening_core s) es) 0 → ServerBrings o v v' l l' → IsHeld s (es ++ one_event o) v' l' ks
   served_on v' l' o is serves = served v' l' o (λ e h. turn_legal 0 e (sym is ∙ h)) (subst (IsOf 0) (sym is) (turn_is_of s core 0)) serves
 
-  pub unserved_on : (v' : SharedState) (l' : Lock) → Serves None v v' l l' → IsHeld s es v' l' ks
+  pub unserved_on : (v' : SharedState) (l' : Lock) → ServerBrings None v v' l l' → IsHeld s es v' l' ks
   unserved_on v' l' serves = subst (λ t. IsHeld s t v' l' ks) (append-nil es) (served v' l' None (λ e h. absurd (grind arith)) tt serves)
 
 -- a world at the opening
@@ -308,15 +309,3 @@ held_open s v l ks good scene journal word queue open_ones = record {
       fits = record { scene = is.scene ∙ sym scene; part = is.part ∙ ap (λ c. opening_part (commands_of s c)) (sym is.numbered) ∙ ap (λ (w : World). w.client k.number) (sym world_opens) };
       dying = is.living;
     }
-
--- one client more at the opening
-pub opening_more : (s : Scene) (numbers : List ℕ) (ks : List ClientState) (i n : ℕ) (k : ClientState) → length ks ≡ i → slice_get numbers i ≡ Some n →
-    ((j m : ℕ) (x : ClientState) → slice_get numbers j ≡ Some m → slice_get ks j ≡ Some x → IsOpening s m x) → IsOpening s n k →
-    (j m : ℕ) (x : ClientState) → slice_get numbers j ≡ Some m → slice_get (ks ++ k ∷ []) j ≡ Some x → IsOpening s m x
-opening_more s numbers ks i n k at_end at_i before is j m x at_j at_x = by_place (pushed_at ks k j x at_x)
-  where
-    by_place : (slice_get ks j ≡ Some x) ⊎ ((j ≡ length ks) × (k ≡ x)) → IsOpening s m x
-    by_place (inl there) = before j m x at_j there
-    by_place (inr last) =
-        let same : n ≡ m = some_one (sym at_i ∙ ap (slice_get numbers) (sym (last.0 ∙ at_end)) ∙ at_j) in
-        subst (λ t. IsOpening s t x) same (subst (IsOpening s n) last.1 is)

@@ -1,7 +1,7 @@
 -- Places of lists: what stands at a place after a write, and numbers that rise.
-use Rattle.std.proofs.Common.{◌≡◌, ◌≢◌, ◌<◌, ℕ, zero, suc, List, [], ◌∷◌, ◌++◌, inl, inr, Bool, true, false, length, get_or, Some, arith, refl, sym, ap, ◌∙◌}
+use Rattle.std.proofs.Common.{◌≡◌, ◌≢◌, ◌<◌, ℕ, List, Bool, true, false, length, get_or, Some, arith, refl, sym, ap, ◌∙◌}
 use Rattle.std.proofs.Math.ListN.{set, length-set}
-use Rattle.std.specs.Prelude.{◌⊎◌, AllPairs, Contains, nat_lt, slice_get}
+use Rattle.std.specs.Prelude.{AllPairs, Contains, nat_lt, slice_get}
 use Rattle.std.proofs.lemmas.Bool.Decides.{nat_tests}
 use Rattle.std.proofs.lemmas.List.{get_or-set_same, get_or-set_other}
 use Rattle.std.proofs.lemmas.Option.{get_or_from_slice_get, slice_get-get_or, slice_get-map, slice_get_read, slice_get_within}
@@ -47,13 +47,3 @@ pub number_read : (ps : List ClientScript) (i d : ℕ) (p : ClientScript) → i 
 number_read ps i d p below is =
     get_or_from_slice_get (client_numbers ps) i p.number d
     (slice_get-map (λ (q : ClientScript). q.number) ps i ∙ ap (option_map (λ (q : ClientScript). q.number)) (slice_get_read ps (length ps) i p refl below is))
-
-pub number_at : (ps : List ClientScript) (i : ℕ) (p : ClientScript) → slice_get ps i ≡ Some p → slice_get (client_numbers ps) i ≡ Some p.number
-number_at ps i p e = slice_get-map (λ (q : ClientScript). q.number) ps i ∙ ap (option_map (λ (q : ClientScript). q.number)) e
-
--- what stands in a list with one item more stood there, or is that item
-pub pushed_at : {A : Type 0} (xs : List A) (x : A) (j : ℕ) (y : A) → slice_get (xs ++ x ∷ []) j ≡ Some y → (slice_get xs j ≡ Some y) ⊎ ((j ≡ length xs) × (x ≡ y))
-pushed_at [] x zero y e = inr (refl, some_one e)
-pushed_at [] x (suc j) y e = absurd (grind arith)
-pushed_at (z ∷ xs) x zero y e = inl e
-pushed_at (z ∷ xs) x (suc j) y e = elim (pushed_at xs x j y e) [ inl h ↦ inl h | inr h ↦ inr (ap suc h.0, h.1) ]

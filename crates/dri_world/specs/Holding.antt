@@ -1,14 +1,12 @@
 -- What a world keeps: the core that its events leave, in parts.
-use Rattle.std.specs.Prelude.{◌≡◌, ℕ, List, length, Some, false, slice_get}
+use Rattle.std.specs.Prelude.{◌≡◌, ℕ, List, length, Some, slice_get}
 use Rattle.dri_base.specs.Ranges.{InRange, client_numbers}
-use Rattle.dri_base.specs.Scenes.{commands_of}
 use Rattle.dri_base.specs.declared.scene.Scene.{Scene}
 use Rattle.dri_base.specs.declared.journal.Event.{Event}
-use Rattle.dri_driver.specs.Clients.{ClientState, part_of}
+use Rattle.dri_driver.specs.Clients.{ClientState}
 use Rattle.dri_driver.specs.Fits.{Fits}
 use Rattle.dri_meaning.specs.CoreRuns.{IsRun, after_events}
 use Rattle.dri_meaning.specs.Cores.{Core, journal_of, opening_core}
-use Rattle.dri_meaning.specs.Privates.{opening_part}
 use Rattle.dri_shared.specs.States.{SharedState}
 use Rattle.dri_world.specs.declared.lock.Lock.{Lock}
 
@@ -32,15 +30,3 @@ pub record IsHeld (s : Scene) (events : List Event) (v : SharedState) (lock : Lo
   pub word : lock.word ≡ (after_events s (opening_core s) events).word
   pub queue : lock.queue ≡ (after_events s (opening_core s) events).queue
   pub clients : HasClients v (after_events s (opening_core s) events) (client_numbers s.clients) ks
-
--- a client of the scene at the opening
-pub record IsOpening (s : Scene) (number : ℕ) (k : ClientState) : Type 0 where
-  pub scene : k.scene ≡ s
-  pub numbered : k.number ≡ number
-  pub living : k.dying ≡ false
-  pub part : part_of k ≡ opening_part (commands_of s number)
-
--- a client at the opening for each of these scripts, in their order
-pub record AreOpening (s : Scene) (numbers : List ℕ) (ks : List ClientState) : Type 0 where
-  pub number : length ks ≡ length numbers
-  pub each : (i n : ℕ) (k : ClientState) → slice_get numbers i ≡ Some n → slice_get ks i ≡ Some k → IsOpening s n k

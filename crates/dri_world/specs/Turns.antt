@@ -40,7 +40,7 @@ pub record Brings (o : Option Event) (v v' : SharedState) (l l' : Lock) (k k' : 
   pub dying : k'.dying ≡ (core_after v.scene (core_at v l k.dying) o).dying k.number
 
 -- the same of an event of the server, which leaves the clients as they are
-pub record Serves (o : Option Event) (v v' : SharedState) (l l' : Lock) : Type 0 where
+pub record ServerBrings (o : Option Event) (v v' : SharedState) (l l' : Lock) : Type 0 where
   pub scene : v'.scene ≡ v.scene
   pub journal : v'.journal ≡ v.journal ++ journal_of (one_event o)
   pub word : l'.word ≡ (core_after v.scene (core_at v l false) o).word

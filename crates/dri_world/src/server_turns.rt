@@ -5,7 +5,7 @@ ghost use Rattle.dri_base.specs.declared.journal.Entry.TheVariants as Entry_is;
 ghost use Rattle.dri_meaning.specs.Turns.{server_turn};
 ghost use Rattle.dri_shared.specs.States.{MayAdd, world_of};
 ghost use Rattle.dri_world.specs.Locks.{core_at};
-ghost use Rattle.dri_world.specs.Turns.{MayBring, Serves};
+ghost use Rattle.dri_world.specs.Turns.{MayBring, ServerBrings};
 
 use crate::lock::{Lock, end_hold, lets_in, wait};
 use dri_base::{Event, OutOfMemory};
@@ -27,8 +27,8 @@ pub(crate) fn turn_of_server(
     requires total { total ≡ length shared.old.scene.changes }
     requires legal { MayBring shared.old (server_turn shared.old.scene (core_at shared.old lock.old false)) }
     ensures event { IfOk result (λ o. o ≡ server_turn shared.old.scene (core_at shared.old lock.old false)) }
-    ensures made { IfOk result (λ o. Serves o shared.old shared.new lock.old lock.new) }
-    ensures err { OnErr result (Serves None shared.old shared.new lock.old lock.new) }
+    ensures made { IfOk result (λ o. ServerBrings o shared.old shared.new lock.old lock.new) }
+    ensures err { OnErr result (ServerBrings None shared.old shared.new lock.old lock.new) }
 {
     let left = changes_left(shared);
     if left == 0 {
@@ -62,8 +62,8 @@ fn change(
     requires place { place ≡ (world_of shared.old).made + 1 }
     requires legal { MayAdd shared.old (Entry_is.Change place) }
     ensures event { IfOk result (λ e. e ≡ Event.Change place) }
-    ensures made { OnOk result (Serves (Some (Event.Change place)) shared.old shared.new lock.old lock.new) }
-    ensures err { OnErr result (Serves None shared.old shared.new lock.old lock.new) }
+    ensures made { OnOk result (ServerBrings (Some (Event.Change place)) shared.old shared.new lock.old lock.new) }
+    ensures err { OnErr result (ServerBrings None shared.old shared.new lock.old lock.new) }
 {
     let mut side = shared.server_side();
     side.change(alloc)?;

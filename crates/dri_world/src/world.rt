@@ -5,17 +5,16 @@
 ghost use Rattle.std.specs.Prelude.{◌≡◌, [], IfOk};
 ghost use Rattle.std.specs.Arc.{arc_value};
 ghost use Rattle.dri_base.specs.Planes.{plane};
-ghost use Rattle.dri_base.specs.Ranges.{InRange, client_numbers};
+ghost use Rattle.dri_base.specs.Ranges.{InRange};
 ghost use Rattle.dri_meaning.specs.CoreRuns.{ConfinedRun, IsRun, OwnRun, SoloLeftRun, world_of};
 ghost use Rattle.dri_meaning.specs.Cores.{journal_of, word_number};
 ghost use Rattle.dri_meaning.specs.Runs.{HoldRun, after};
 ghost use Rattle.dri_shared.specs.Areas.{area_of};
 ghost use Rattle.dri_world.specs.Courses.{core_of};
-ghost use Rattle.dri_world.specs.Holding.{AreOpening};
 
 use crate::lock::{Lock, LockWord};
 use dri_base::{Entry, Event, OutOfMemory, Rgb, Scene};
-use dri_driver::Client;
+use dri_driver::{Client, clients_of};
 use dri_kernel::Queue;
 use dri_plane::Plane;
 use dri_sarea::Sarea;
@@ -75,11 +74,12 @@ impl World {
         self.lock.word.number()
     }
 
-    /// All events made, in order. They are a run of the scene: no command of it changes a pixel outside its client's
-    /// clips of that moment, each triangle is drawn with its own client's state and texels, and each frame that stood is
-    /// left in its client's clips as it is drawn alone.
+    /// All events made, in order. They are a run of the scene, which is in range: no command of it changes a pixel
+    /// outside its client's clips of that moment, each triangle is drawn with its own client's state and texels, and each
+    /// frame that stood is left in its client's clips as it is drawn alone.
     pub fn events(&self) -> &[Event]
         ensures same { result.now ≡ self.now.events }
+        ensures in_range { InRange self.now.scene }
         ensures run { IsRun self.now.scene self.now.events }
         ensures confined { ConfinedRun self.now.scene self.now.events }
         ensures own { OwnRun self.now.scene self.now.events }
@@ -114,17 +114,4 @@ impl World {
         let word = self.lock.word.number();
         self.shared.sarea(alloc, word)
     }
-}
-
-/// A client for each script, in the scripts' order, at the opening.
-fn clients_of(alloc: Global, scene: &Arc<Scene, Global>) -> Result<Vec<Client>, OutOfMemory>
-    requires { InRange (arc_value scene.now) }
-    ensures { IfOk result (λ ks. AreOpening (arc_value scene.now) (client_numbers (arc_value scene.now).clients) ks.items) }
-{
-    let mut clients = Vec::with_capacity(alloc, scene.clients.len())?;
-    for i in 0..scene.clients.len() {
-        let number = scene.clients.get(i).number;
-        clients.push(Client::new(alloc, scene.clone()?, number)?)?;
-    }
-    Ok(clients)
 }

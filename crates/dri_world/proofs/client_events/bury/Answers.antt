@@ -3,7 +3,7 @@ use Rattle.dri_world.proofs.Fitting.{brings_none, gone_brings}
 use Rattle.dri_world.proofs.client_events.bury.Goals as goal
 
 pub returns-clause-made : goal.returns-clause-made
-returns-clause-made c = gone_brings _ _ _ _ _ _ _ c.requires.seated c.in_ok-unmap.ensures.made c.gone.ensures c.end_hold.ensures.word c.end_hold.ensures.queue
+returns-clause-made c = gone_brings _ _ _ _ _ _ _ c.requires.seated c.in_ok-unmap.ensures.made c.gone.ensures.state (c.gone.ensures.fits _ _) c.end_hold.ensures.word c.end_hold.ensures.queue
 
 pub returns-in_err-unmap-clause-err : goal.returns-in_err-unmap-clause-err
 returns-in_err-unmap-clause-err c =

@@ -3,7 +3,7 @@ use Rattle.dri_world.proofs.Fitting.{brings_none, told_brings}
 use Rattle.dri_world.proofs.client_events.inform.Goals as goal
 
 pub returns-clause-made : goal.returns-clause-made
-returns-clause-made c = told_brings _ _ _ _ _ _ _ c.in_ok-told.told c.requires.seated c.in_ok-told.ensures.made c.in_ok-told.ensures.told c.told.ensures c.end_hold.ensures.word c.end_hold.ensures.queue
+returns-clause-made c = told_brings _ _ _ _ _ _ _ c.in_ok-told.told c.requires.seated c.in_ok-told.ensures.made c.in_ok-told.ensures.told c.told.ensures.state (c.told.ensures.fits _ _) c.end_hold.ensures.word c.end_hold.ensures.queue
 
 pub returns-in_err-told-clause-err : goal.returns-in_err-told-clause-err
 returns-in_err-told-clause-err c =

@@ -2,6 +2,9 @@ use Rattle.std.specs.Arc.{arc_value}
 use Rattle.dri_meaning.proofs.RunLaws.{confined_events, own_events, solo_left_events}
 use Rattle.dri_world.proofs.world.World.events.Goals as goal
 
+pub returns-clause-in_range : goal.returns-clause-in_range
+returns-clause-in_range c = rw (← c.self.view_is) c.self.invariant.good
+
 pub returns-clause-confined : goal.returns-clause-confined
 returns-clause-confined c = rw (← c.self.view_is) (confined_events (arc_value c.self.inside.scene) c.self.inside.events.items c.self.invariant.good c.self.invariant.run)
 
