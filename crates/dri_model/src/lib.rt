@@ -2,7 +2,6 @@
 //! and the command words. The functions here do nothing; their contracts are what holds of the definitions.
 #![tactic(auto)]
 
-
 ghost use Rattle.std.specs.Prelude.{◌≡◌, ◌<◌, ◌≤◌, ℕ, List, [], ◌∷◌, true, false};
 ghost use Rattle.dri_base.specs.declared.state.Registers.{Registers};
 ghost use Rattle.dri_model.specs.Heaps.{Heap, is_place_for, lowest_place, classes_for, allocated, touched};
