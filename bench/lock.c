@@ -8,7 +8,7 @@
 
 #define HELD 0x80000000u
 #define CONTENDED 0x40000000u
-#define WORK_STEPS 320
+#define WORK_STEPS 250
 #define THREADS 4
 
 /* One exchange: the word becomes NEW where it is OLD. FAILED is 0 where it was. */
@@ -48,8 +48,11 @@ static void ask_kernel(void)
 static void work(void)
 {
     uint64_t next = sum;
-    for (int i = 0; i < WORK_STEPS; i++)
-        next = next * 6364136223846793005u + 1442695040888963407u;
+    for (int i = 0; i < WORK_STEPS; i++) {
+        next ^= next << 13;
+        next ^= next >> 7;
+        next ^= next << 17;
+    }
     sum = next;
 }
 

@@ -8,7 +8,7 @@ use dri_kernel::Kernel;
 use std::sync::Wait;
 
 /// The steps of the work of one hold, some half a microsecond.
-const WORK_STEPS: u32 = 320;
+const WORK_STEPS: u32 = 250;
 
 /// A value without entries.
 #[derive(Drop)]
@@ -70,13 +70,13 @@ pub fn sum_in(rt: &impl Wait, lock: &HwLock<Tally>, kernel: &Kernel, pass: Pass<
     sum
 }
 
-// A linear congruence, step after step.
+// Shifts and exclusive ors, step after step.
 fn worked(sum: u64) -> u64 {
     let mut sum = sum;
     for _ in 0..WORK_STEPS {
-        sum = sum
-            .wrapping_mul(6_364_136_223_846_793_005)
-            .wrapping_add(1_442_695_040_888_963_407);
+        sum ^= sum << 13;
+        sum ^= sum >> 7;
+        sum ^= sum << 17;
     }
     sum
 }

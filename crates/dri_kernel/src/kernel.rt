@@ -9,13 +9,23 @@ ghost use Rattle.dri_kernel.specs.Waiting.{IsActor};
 
 use crate::queue::Queue;
 use dri_hwlock::{Guarded, Hold, HwLock, Late, Left, Marked, Pass, Refused};
+use std::array;
+use std::hint::spin_loop;
 use std::sync::{Condvar, Mutex, Wait};
 
-/// The queue of those that wait, behind a mutex. It is shared by `&`.
+// How often the queue's front tries to take a held lock before it marks the word and sleeps. A hold
+// that ends meanwhile may still leave lightly.
+const TRIES: u32 = 1024;
+
+// The actors: the server and 32 clients.
+const ACTORS: usize = 33;
+
+/// The queue of those that wait, behind a mutex, and for each actor what it sleeps on. It is shared
+/// by `&`.
 #[derive(Drop)]
 pub struct Kernel {
     queue: Mutex<Queue>,
-    moved: Condvar,
+    sleepers: [Condvar; ACTORS],
 }
 
 impl Kernel {
@@ -23,7 +33,7 @@ impl Kernel {
     pub fn new() -> Kernel {
         Kernel {
             queue: Mutex::new(Queue::new()),
-            moved: Condvar::new(),
+            sleepers: array::from_fn(|_| Condvar::new()),
         }
     }
 
@@ -49,13 +59,14 @@ impl Kernel {
         if !queue.contains(actor) {
             queue.join(actor);
         }
+        let mut tries = 0;
         for _ in rt.forever() {
             let mut sleeps = true;
             if queue.front() == Some(actor) {
                 late = match hw.take(late) {
                     Ok(hold) => {
                         queue.remove(actor);
-                        self.moved.notify_all();
+                        self.wake_front(&queue);
                         return hold;
                     }
                     Err(Refused::Held { word: _, token }) => token,
@@ -67,10 +78,14 @@ impl Kernel {
                         },
                     ) => token,
                 };
-                sleeps = matches!(hw.mark(&mut late), Marked::Contended { .. });
+                sleeps = tries == TRIES && matches!(hw.mark(&mut late), Marked::Contended { .. });
+                if tries < TRIES {
+                    tries += 1;
+                    spin_loop();
+                }
             }
             if sleeps {
-                queue = self.moved.wait(rt, queue);
+                queue = self.sleepers[actor as usize].wait(rt, queue);
             }
         }
         unreachable!()
@@ -97,13 +112,14 @@ impl Kernel {
         if !queue.contains(actor) {
             queue.join(actor);
         }
+        let mut tries = 0;
         for _ in rt.forever() {
             let mut sleeps = true;
             if queue.front() == Some(actor) {
                 pass = match hw.take_as_server(pass) {
                     Ok(hold) => {
                         queue.remove(actor);
-                        self.moved.notify_all();
+                        self.wake_front(&queue);
                         return hold;
                     }
                     Err(Refused::Held { word: _, token }) => token,
@@ -115,10 +131,15 @@ impl Kernel {
                         },
                     ) => token,
                 };
-                sleeps = matches!(hw.mark_as_server(&mut pass), Marked::Contended { .. });
+                sleeps = tries == TRIES
+                    && matches!(hw.mark_as_server(&mut pass), Marked::Contended { .. });
+                if tries < TRIES {
+                    tries += 1;
+                    spin_loop();
+                }
             }
             if sleeps {
-                queue = self.moved.wait(rt, queue);
+                queue = self.sleepers[actor as usize].wait(rt, queue);
             }
         }
         unreachable!()
@@ -184,10 +205,20 @@ impl Kernel {
         self.queue.lock(rt).len()
     }
 
-    // Wakes those that sleep. Under the mutex none of them is between its look at the word and its
-    // sleep.
+    // Wakes the front after the word was freed. Under the mutex it isn't between its look at the word
+    // and its sleep.
     fn wake(&self, rt: &impl Wait) {
-        let _queue = self.queue.lock(rt);
-        self.moved.notify_all();
+        let queue = self.queue.lock(rt);
+        self.wake_front(&queue);
+    }
+
+    // Wakes the queue's front, which alone may take the lock and has to mark its word.
+    fn wake_front(&self, queue: &Queue) {
+        let Some(front) = queue.front() else {
+            return;
+        };
+        if let Some(sleeper) = self.sleepers.get(front as usize) {
+            sleeper.notify_all();
+        }
     }
 }

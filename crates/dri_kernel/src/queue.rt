@@ -1,7 +1,7 @@
 //! The actors that wait for the lock, in the order in which they came: a vector in fixed memory, with room for all 33.
 
-ghost use Rattle.std.specs.Prelude.{◌≡◌, ◌++◌, [], ◌∷◌, ◌↔◌, ◌≤◌, IsTrue, false, slice_get};
-ghost use Rattle.dri_kernel.specs.Waiting.{IsActor, is_queued, leaves};
+ghost use Rattle.std.specs.Prelude.{◌≡◌, ◌++◌, [], ◌∷◌, ◌↔◌, ◌≤◌, IsTrue, false, slice_get, length};
+ghost use Rattle.dri_kernel.specs.Waiting.{IsActor, IsQueue, is_queued, leaves};
 
 use arrayvec::ArrayVec;
 use std::marker::Model;
@@ -69,6 +69,14 @@ impl Queue {
         ensures { IsTrue result ↔ (self.now ≡ []) }
     {
         self.actors.is_empty()
+    }
+
+    /// A law: those that wait are actors, none of them twice, and so at most 33.
+    pub fn none_twice(&self)
+        ensures queue { IsQueue self.now }
+        ensures few { length self.now ≤ 33 }
+    {
+        let _count = self.actors.len();
     }
 
     // How many wait.
