@@ -1,5 +1,5 @@
 -- The words of the command line.
-use Rattle.std.specs.Prelude.{List, [], ◌∷◌, ℕ, map, codes, if◌then◌else◌, Option, Some, None}
+use Rattle.std.specs.Prelude.{List, [], ◌∷◌, ℕ, Bool, false, map, codes, if◌then◌else◌, Option, Some, None}
 use Rattle.std.specs.Str.{bytes_eq}
 use Rattle.std.specs.String.{string_bytes}
 use Rattle.std.specs.declared.string.String.{String}
@@ -20,3 +20,13 @@ form_of_words (word ∷ other ∷ words) = None
 -- the form of the words of a command line
 abbrev pub form_of : List (String Global) → Option Form
 form_of words = form_of_words (map string_bytes words)
+
+-- these words are the one word run
+abbrev pub are_run : List (List ℕ) → Bool
+are_run [] = false
+are_run (word ∷ []) = bytes_eq word (codes "run")
+are_run (word ∷ other ∷ words) = false
+
+-- the words of a command line are the one word run
+abbrev pub is_run : List (String Global) → Bool
+is_run words = are_run (map string_bytes words)

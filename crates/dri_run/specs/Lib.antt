@@ -4,3 +4,4 @@ pub mod Notices
 pub mod Forms
 pub mod Gains
 pub mod Outcome
+pub mod ScheduledRun

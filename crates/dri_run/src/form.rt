@@ -1,7 +1,7 @@
 //! The words of the command line.
 
 ghost use Rattle.std.specs.Prelude.{◌≡◌};
-ghost use Rattle.dri_run.specs.Forms.{form_of, form_of_word};
+ghost use Rattle.dri_run.specs.Forms.{form_of, form_of_word, is_run};
 
 /// What the words ask for.
 #[derive(Clone, Copy, Debug, PartialEq, Eq)]
@@ -32,5 +32,15 @@ pub fn form_of(words: &[String]) -> Option<Form>
     match words {
         [word] => form_of_word(word.as_str()),
         _ => None,
+    }
+}
+
+/// Whether the words are the one word `run`, which asks for clients in threads.
+pub fn is_run(words: &[String]) -> bool
+    ensures { result ≡ is_run words.now }
+{
+    match words {
+        [word] => word.as_str() == "run",
+        _ => false,
     }
 }

@@ -6,9 +6,12 @@ mod notice;
 mod output;
 mod ppm;
 mod printing;
+mod reading;
 mod status;
 mod top;
 mod writing;
 
+pub use form::is_run;
 pub use status::Status;
 pub use top::drive;
+pub use writing::tell;

@@ -1,18 +1,20 @@
-//! What a scene's run gives: its picture and its notes. The run is the schedule's items in order, and then rounds until
+//! What a scene's run by its schedule gives: its picture and its notes. The run is the schedule's items in order, and then rounds until
 //! nothing is left to do.
 
-ghost use Rattle.std.specs.Prelude.{◌≡◌, List, IfOk};
+ghost use Rattle.std.specs.Prelude.{◌≡◌, All, IfOk};
 ghost use Rattle.std.specs.Arc.{arc_value};
-ghost use Rattle.dri_base.specs.declared.journal.Event.{Event};
 ghost use Rattle.dri_base.specs.Ranges.{InRange};
-ghost use Rattle.dri_run.specs.Outcome.{IsRunOf, notes_of, picture_of};
-ghost use Rattle.dri_run.specs.declared.form.Form.TheVariants.{Sarea, Turns};
+ghost use Rattle.dri_run.specs.Journals.{FitsWords, journal_text};
+ghost use Rattle.dri_run.specs.Ppm.{ppm};
+ghost use Rattle.dri_run.specs.ScheduledRun.{GivesByForm, IsRunOf, notes_of, picture_of};
+ghost use Rattle.dri_run.specs.declared.form.Form.TheVariants.{Sarea};
 
 use crate::form::Form;
 use crate::ppm::ppm;
 use crate::printing::print_journal;
 use crate::writing::Output;
-use dri_base::{Bytes, OutOfMemory, Scene};
+use dri_base::{Bytes, Entry, OutOfMemory, Rgb, Scene};
+use dri_plane::Plane;
 use dri_world::World;
 use std::alloc::Global;
 use std::sync::Arc;
@@ -30,14 +32,18 @@ fn run(alloc: Global, scene: &Arc<Scene, Global>) -> Result<World, OutOfMemory>
     Ok(world)
 }
 
-/// The screen in the P6 form, and the journal.
-fn screen_of(alloc: Global, scene: &Scene, world: &World) -> Result<Output, OutOfMemory>
-    requires { world.now.scene ≡ scene.now }
-    ensures picture { IfOk result (λ o. o.picture ≡ picture_of Turns world.now.scene world.now.events) }
-    ensures notes { IfOk result (λ o. o.notes ≡ notes_of Turns world.now.events) }
+/// A screen in the P6 form, and a journal.
+pub fn screen_of(
+    alloc: Global,
+    front: &Plane<Rgb>,
+    journal: &[Entry],
+) -> Result<Output, OutOfMemory>
+    ensures picture { IfOk result (λ o. o.picture ≡ ppm front.now.width front.now.height front.now.pixels) }
+    ensures notes { IfOk result (λ o. o.notes ≡ journal_text journal.now) }
+    ensures fits { IfOk result (λ o. All FitsWords journal.now) }
 {
-    let picture = ppm(alloc, scene.width, scene.height, world.front().pixels())?;
-    let notes = print_journal(alloc, world.journal())?;
+    let picture = ppm(alloc, front.width(), front.height(), front.pixels())?;
+    let notes = print_journal(alloc, journal)?;
     Ok(Output { picture, notes })
 }
 
@@ -55,13 +61,12 @@ fn area_of(alloc: Global, world: &World) -> Result<Output, OutOfMemory>
 }
 
 /// What a world gives in this form.
-fn given(alloc: Global, form: Form, scene: &Scene, world: &World) -> Result<Output, OutOfMemory>
-    requires { world.now.scene ≡ scene.now }
+fn given(alloc: Global, form: Form, world: &World) -> Result<Output, OutOfMemory>
     ensures picture { IfOk result (λ o. o.picture ≡ picture_of form world.now.scene world.now.events) }
     ensures notes { IfOk result (λ o. o.notes ≡ notes_of form world.now.events) }
 {
     match form {
-        Form::Turns => screen_of(alloc, scene, world),
+        Form::Turns => screen_of(alloc, world.front(), world.journal()),
         Form::Sarea => area_of(alloc, world),
     }
 }
@@ -69,10 +74,10 @@ fn given(alloc: Global, form: Form, scene: &Scene, world: &World) -> Result<Outp
 /// What a scene's run gives in this form.
 pub fn output_of(alloc: Global, form: Form, scene: Scene) -> Result<Output, OutOfMemory>
     requires { InRange scene }
-    ensures { IfOk result (λ o. (events : List Event) × IsRunOf scene events × (o.picture ≡ picture_of form scene events) × (o.notes ≡ notes_of form events)) }
+    ensures { IfOk result (λ o. GivesByForm form scene o.picture o.notes) }
 {
     let scene = Arc::new(alloc, scene)?;
     let world = run(alloc, &scene)?;
-    let output = given(alloc, form, &scene, &world)?;
+    let output = given(alloc, form, &world)?;
     Ok(output)
 }

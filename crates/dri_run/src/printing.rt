@@ -1,7 +1,7 @@
 //! The text of a journal: a title, one line for each entry, and `done`.
 
-ghost use Rattle.std.specs.Prelude.{◌≡◌, ◌++◌, [], ◌∷◌, IfOk, OnOk, codes};
-ghost use Rattle.dri_run.specs.Journals.{entry_line, journal_text, numbered, spaced};
+ghost use Rattle.std.specs.Prelude.{◌≡◌, ◌<◌, ◌^◌, ◌++◌, [], ◌∷◌, All, IfOk, OnOk, codes};
+ghost use Rattle.dri_run.specs.Journals.{FitsWords, entry_line, journal_text, numbered, spaced};
 
 use dri_base::{Bytes, Entry, OutOfMemory};
 use itoa::Buffer;
@@ -9,7 +9,8 @@ use std::alloc::{AllocError, Global};
 
 /// Puts a space and a number last.
 fn push_number(bytes: &mut Vec<u8>, number: u32) -> Result<(), AllocError>
-    ensures { OnOk result (bytes.new.items ≡ bytes.old.items ++ spaced number) }
+    ensures digits { OnOk result (bytes.new.items ≡ bytes.old.items ++ spaced number) }
+    ensures fits { number < 2 ^ 32 }
 {
     let mut digits = Buffer::new();
     bytes.push(b' ')?;
@@ -18,7 +19,8 @@ fn push_number(bytes: &mut Vec<u8>, number: u32) -> Result<(), AllocError>
 
 /// Puts a line last: a word, then numbers.
 fn push_line(bytes: &mut Vec<u8>, word: &str, numbers: &[u32]) -> Result<(), AllocError>
-    ensures { OnOk result (bytes.new.items ≡ bytes.old.items ++ numbered word.now numbers.now) }
+    ensures line { OnOk result (bytes.new.items ≡ bytes.old.items ++ numbered word.now numbers.now) }
+    ensures fit { OnOk result (All (λ n. n < 2 ^ 32) numbers.now) }
 {
     bytes.extend_from_slice(word.as_bytes())?;
     for number in numbers {
@@ -30,7 +32,8 @@ fn push_line(bytes: &mut Vec<u8>, word: &str, numbers: &[u32]) -> Result<(), All
 
 /// Puts an entry's line last.
 fn push_entry(bytes: &mut Vec<u8>, entry: &Entry) -> Result<(), AllocError>
-    ensures { OnOk result (bytes.new.items ≡ bytes.old.items ++ entry_line entry.now) }
+    ensures line { OnOk result (bytes.new.items ≡ bytes.old.items ++ entry_line entry.now) }
+    ensures fits { OnOk result (FitsWords entry.now) }
 {
     match *entry {
         Entry::Light { client } => push_line(bytes, "light", &[client]),
@@ -53,7 +56,8 @@ fn push_entry(bytes: &mut Vec<u8>, entry: &Entry) -> Result<(), AllocError>
 
 /// The text of a journal.
 pub fn print_journal(alloc: Global, entries: &[Entry]) -> Result<Bytes, OutOfMemory>
-    ensures { IfOk result (λ b. b ≡ journal_text entries.now) }
+    ensures text { IfOk result (λ b. b ≡ journal_text entries.now) }
+    ensures fits { IfOk result (λ b. All FitsWords entries.now) }
 {
     let mut bytes = Vec::new(alloc);
     bytes.extend_from_slice(b"journal 1\n".as_slice())?;

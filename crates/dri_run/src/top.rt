@@ -1,35 +1,27 @@
 //! The top call: words, reading, length, text, run, writing, in this order.
 
-ghost use Rattle.std.specs.Prelude.{◌≡◌, ◌≢◌, ◌≤◌, ◌⊎◌, ◌↔◌, ℕ, List, None, Some};
+ghost use Rattle.std.specs.Prelude.{◌≡◌, ◌≢◌, ◌≤◌, ◌⊎◌, ◌↔◌, ℕ, List, Ok, None, Some, length};
 ghost use Rattle.std.specs.Io.KnownBytes.{Consumes};
 ghost use Rattle.std.specs.declared.option.Option.{Option};
 ghost use Rattle.dri_io.specs.Causes.{Rose};
 ghost use Rattle.dri_run.specs.declared.form.Form.{Form};
 ghost use Rattle.dri_run.specs.Forms.{form_of};
-ghost use Rattle.dri_run.specs.Outcome.{Answers, Runs, Says, SaysTo, answer_to, refusal};
+ghost use Rattle.dri_run.specs.Gains.{GainsAll};
+ghost use Rattle.dri_run.specs.Notices.{line_of};
+ghost use Rattle.dri_run.specs.Outcome.{Answers, AreTaken, Runs, Says, answer_to};
+ghost use Rattle.dri_run.specs.ScheduledRun.{GivesByForm, SaysTo};
+ghost use Rattle.dri_scene.specs.Readings.{scene_of};
+ghost use Rattle.dri_base.specs.declared.scene.Scene.{Scene};
 ghost use Rattle.dri_base.specs.Ranges.{InRange};
 
 use crate::Status;
 use crate::form::{Form, form_of};
 use crate::output::output_of;
+use crate::reading::read;
 use crate::writing::{tell, write};
 use dri_base::Scene;
-use dri_io::{ReadAll, Sink, Source, read_all};
-use dri_scene::{SceneFault, read_scene};
+use dri_io::{Sink, Source};
 use std::alloc::Global;
-
-/// The most bytes that a scene's text may have.
-const MOST: usize = 16_777_216;
-
-/// The status for a text that has no scene.
-fn refusal(fault: SceneFault) -> Status
-    ensures { result ≡ refusal fault }
-{
-    match fault {
-        SceneFault::Refused { line, reason } => Status::Refused { line, reason },
-        SceneFault::OutOfMemory => Status::OutOfMemory,
-    }
-}
 
 /// Runs a scene and writes what the form asks for.
 fn run<P: Sink, N: Sink>(
@@ -40,11 +32,12 @@ fn run<P: Sink, N: Sink>(
     notes: &mut N,
 ) -> Status
     requires { InRange scene }
-    ensures ran { Runs form result scene
+    ensures ran { Runs (GivesByForm form) result scene
         (record { held = P.held picture.old; holds = P.held picture.new; before = P.faults picture.old; now = P.faults picture.new })
         (record { held = N.held notes.old; holds = N.held notes.new; before = N.faults notes.old; now = N.faults notes.new }) }
     ensures later { N.faults notes.old ≤ N.faults notes.new }
     ensures unwritten { result ≡ Status.OutOfMemory → (picture.new ≡ picture.old) × (notes.new ≡ notes.old) }
+    ensures taken { AreTaken (GivesByForm form) (P.takes picture.old) (N.takes notes.old) scene → (result ≡ Status.Done) ⊎ (result ≡ Status.OutOfMemory) }
 {
     match output_of(alloc, form, scene) {
         Ok(output) => write(&output, picture, notes),
@@ -61,7 +54,7 @@ fn obey<S: Source, P: Sink, N: Sink>(
     notes: &mut N,
 ) -> Status
     ensures says { (given : List ℕ) × Consumes (S.left input.old) (S.left input.new) given
-        × Says form result given (S.left input.new)
+        × Says (GivesByForm form) result given (S.left input.new)
         (record { held = P.held picture.old; holds = P.held picture.new; before = P.faults picture.old; now = P.faults picture.new })
         (record { held = N.held notes.old; holds = N.held notes.new; before = N.faults notes.old; now = N.faults notes.new }) }
     ensures later { N.faults notes.old ≤ N.faults notes.new }
@@ -71,16 +64,14 @@ fn obey<S: Source, P: Sink, N: Sink>(
         → (Rose (S.faults input.old) (S.faults input.new) → ⊥) → (Rose (P.faults picture.old) (P.faults picture.new) → ⊥)
         → (Rose (N.faults notes.old) (N.faults notes.new) → ⊥)
         → (result ≡ answer_to bytes) ⊎ (result ≡ Status.OutOfMemory) }
+    ensures taken { (bytes : List ℕ) → S.left input.old ≡ Some bytes
+        → (S.gives_all input.old ⊎ (Rose (S.faults input.old) (S.faults input.new) → ⊥))
+        → ((scene : Scene) → scene_of bytes ≡ Ok scene → AreTaken (GivesByForm form) (P.takes picture.old) (N.takes notes.old) scene)
+        → (result ≡ answer_to bytes) ⊎ (result ≡ Status.OutOfMemory) }
 {
-    let bytes = match read_all(alloc, input, MOST) {
-        Ok(bytes) => bytes,
-        Err(ReadAll::Fault) => return Status::ReadFault,
-        Err(ReadAll::TooLong) => return Status::TooLong,
-        Err(ReadAll::OutOfMemory) => return Status::OutOfMemory,
-    };
-    match read_scene(alloc, bytes.as_slice()) {
+    match read(alloc, input) {
         Ok(scene) => run(alloc, form, scene, picture, notes),
-        Err(fault) => refusal(fault),
+        Err(status) => status,
     }
 }
 
@@ -100,11 +91,15 @@ fn answer<S: Source, P: Sink, N: Sink>(
         (record { held = P.held picture.old; holds = P.held picture.new; before = P.faults picture.old; now = P.faults picture.new })
         (record { held = N.held notes.old; holds = N.held notes.new; before = N.faults notes.old; now = N.faults notes.new }) }
     ensures later { N.faults notes.old ≤ N.faults notes.new }
-    ensures unwritten { result ≢ Status.Done → result ≢ Status.WriteFault → picture.new ≡ picture.old }
+    ensures unwritten { result ≢ Status.Done → result ≢ Status.WriteFault → (picture.new ≡ picture.old) × (notes.new ≡ notes.old) }
     ensures read_fault { result ≡ Status.ReadFault → Rose (S.faults input.old) (S.faults input.new) }
     ensures decided { (form : Form) (bytes : List ℕ) → form_of words.now ≡ Some form → S.left input.old ≡ Some bytes
         → (Rose (S.faults input.old) (S.faults input.new) → ⊥) → (Rose (P.faults picture.old) (P.faults picture.new) → ⊥)
         → (Rose (N.faults notes.old) (N.faults notes.new) → ⊥)
+        → (result ≡ answer_to bytes) ⊎ (result ≡ Status.OutOfMemory) }
+    ensures taken { (form : Form) (bytes : List ℕ) → form_of words.now ≡ Some form → S.left input.old ≡ Some bytes
+        → (S.gives_all input.old ⊎ (Rose (S.faults input.old) (S.faults input.new) → ⊥))
+        → ((scene : Scene) → scene_of bytes ≡ Ok scene → AreTaken (GivesByForm form) (P.takes picture.old) (N.takes notes.old) scene)
         → (result ≡ answer_to bytes) ⊎ (result ≡ Status.OutOfMemory) }
 {
     match form_of(words) {
@@ -132,7 +127,7 @@ pub fn drive<S: Source, P: Sink, N: Sink>(
     // scene; with the run of its schedule and rounds, the picture gained what the screen or the shared area shows after
     // it, and the notes its journal; and of that run the headline holds.
     ensures answers { (given : List ℕ) × Consumes (S.left input.old) (S.left input.new) given
-        × Answers (form_of words.now) result given (S.left input.new)
+        × Answers (SaysTo (form_of words.now)) result given (S.left input.new)
         (record { held = P.held picture.old; holds = P.held picture.new; before = P.faults picture.old; now = P.faults picture.new })
         (record { held = N.held notes.old; holds = N.held notes.new; before = N.faults notes.old; now = N.faults notes.new }) }
     ensures unwritten { result ≢ Status.Done → result ≢ Status.WriteFault → picture.new ≡ picture.old }
@@ -145,6 +140,16 @@ pub fn drive<S: Source, P: Sink, N: Sink>(
         → (Rose (S.faults input.old) (S.faults input.new) → ⊥) → (Rose (P.faults picture.old) (P.faults picture.new) → ⊥)
         → (Rose (N.faults notes.old) (N.faults notes.new) → ⊥)
         → (result ≡ answer_to bytes) ⊎ (result ≡ Status.OutOfMemory) }
+
+    // The same holds where the sinks take, without a fault, whatever a run of the scene gives.
+    ensures taken { (form : Form) (bytes : List ℕ) → form_of words.now ≡ Some form → S.left input.old ≡ Some bytes
+        → (S.gives_all input.old ⊎ (Rose (S.faults input.old) (S.faults input.new) → ⊥))
+        → ((scene : Scene) → scene_of bytes ≡ Ok scene → AreTaken (GivesByForm form) (P.takes picture.old) (N.takes notes.old) scene)
+        → (result ≡ answer_to bytes) ⊎ (result ≡ Status.OutOfMemory) }
+
+    // Where the notes take the status's line without a fault, they gain it whole and nothing else.
+    ensures told { (n : ℕ) → length (line_of result) ≤ n → N.takes notes.old n → result ≢ Status.Done → result ≢ Status.WriteFault
+        → GainsAll (record { held = N.held notes.old; holds = N.held notes.new; before = N.faults notes.old; now = N.faults notes.new }) (line_of result) }
 {
     let status = answer(alloc, words, input, picture, notes);
     if status != Status::Done {

@@ -1,7 +1,7 @@
 //! What is written: the picture whole, then the notes, and then, for a status other than `Done`, the status's line.
 
-ghost use Rattle.std.specs.Prelude.{◌≤◌};
-ghost use Rattle.dri_run.specs.Gains.{Gains, Sunk, Written};
+ghost use Rattle.std.specs.Prelude.{◌≡◌, ◌≤◌, ℕ, length};
+ghost use Rattle.dri_run.specs.Gains.{Gains, GainsAll, Sunk, Written};
 ghost use Rattle.dri_run.specs.Notices.{line_of};
 
 use crate::Status;
@@ -23,6 +23,7 @@ pub fn write<P: Sink, N: Sink>(output: &Output, picture: &mut P, notes: &mut N) 
         (record { held = N.held notes.old; holds = N.held notes.new; before = N.faults notes.old; now = N.faults notes.new })
         output.now.picture output.now.notes }
     ensures later { N.faults notes.old ≤ N.faults notes.new }
+    ensures taken { P.takes picture.old (length output.now.picture) → N.takes notes.old (length output.now.notes) → result ≡ Status.Done }
 {
     if write_all(picture, output.picture.as_slice()).is_err() {
         return Status::WriteFault;
@@ -37,6 +38,8 @@ pub fn write<P: Sink, N: Sink>(output: &Output, picture: &mut P, notes: &mut N) 
 pub fn tell<N: Sink>(status: Status, notes: &mut N)
     ensures gains { Gains (record { held = N.held notes.old; holds = N.held notes.new; before = N.faults notes.old; now = N.faults notes.new }) (line_of status) }
     ensures later { N.faults notes.old ≤ N.faults notes.new }
+    ensures taken { (n : ℕ) → length (line_of status) ≤ n → N.takes notes.old n
+        → GainsAll (record { held = N.held notes.old; holds = N.held notes.new; before = N.faults notes.old; now = N.faults notes.new }) (line_of status) }
 {
     let line = line_of(status);
     let _ = write_all(notes, line.as_str().as_bytes());
