@@ -3,3 +3,6 @@
 
 #[cfg(test)]
 mod run;
+
+#[cfg(test)]
+mod threads;

@@ -1,0 +1,6 @@
+mod Found
+mod Made
+mod Rounds
+mod Standing
+pub mod Wholes
+pub mod Working

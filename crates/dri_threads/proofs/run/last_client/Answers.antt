@@ -1,0 +1,9 @@
+use Rattle.std.proofs.Common.{rules, sym}
+use Rattle.dri_threads.proofs.Rounds.{other_last, popped_last}
+use Rattle.dri_threads.proofs.run.last_client.Goals as goal
+
+pub returns-then-get-number-clause-none : goal.returns-then-get-number-clause-none
+returns-then-get-number-clause-none c = other_last _ _ _ _ c.get.result.now c.requires.in_range.scripted.rising c.requires.below (search rules) c.get.ensures (search rules)
+
+pub returns-clause-some : goal.returns-clause-some
+returns-clause-some c = popped_last _ _ _ _ _ _ c.get.result.now c.requires.in_range.scripted.rising c.requires.below (search rules) c.get.ensures (search rules) c.pop.ensures.last
