@@ -1,14 +1,13 @@
 -- What a hold finds, and what a pass has seen after it.
-use Rattle.std.proofs.Common.{◌≡◌, ◌≢◌, ◌⊎◌, ℕ, zero, suc, ◌+◌, ◌<◌, List, [], ◌∷◌, ◌++◌, length, cond, eqb, get_or, Bool, true, false, Option, Some, None, refl, sym, ap, ◌∙◌, subst, arith, inl, inr, ne_eqb}
-use Rattle.std.specs.Prelude.{Contains, ◌==◌}
+use Rattle.std.proofs.Common.{◌≡◌, ◌≢◌, ℕ, zero, suc, ◌+◌, List, [], ◌∷◌, ◌++◌, cond, eqb, Bool, true, false, Some, refl, sym, ap, ◌∙◌, subst, arith}
+use Rattle.std.specs.Prelude.{Contains}
 use Rattle.std.specs.List.{All}
 use Rattle.std.proofs.lemmas.Bool.Decides.{nat_tests}
-use mathlib.Core.List.{append-nil}
 use Rattle.dri_base.specs.Ranges.{client_numbers}
 use Rattle.dri_base.specs.declared.journal.Entry.{Entry}
 use Rattle.dri_base.specs.declared.scene.Scene.{Scene}
 use Rattle.dri_hwlock.specs.Entries.{Adds, StartsWith, mine}
-use Rattle.dri_hwlock.specs.Tokens.{Token, IsSuccessor, IsAfterLooks}
+use Rattle.dri_hwlock.specs.Tokens.{Token, IsSuccessor}
 use Rattle.dri_hwlock.proofs.Lists.{mine-append}
 use Rattle.dri_meaning.specs.Phases as Phase_is
 use Rattle.dri_meaning.specs.Phases.{Phase, is_done}
@@ -16,12 +15,10 @@ use Rattle.dri_meaning.specs.Runs.{after, client_of, context_of}
 use Rattle.dri_meaning.specs.Worlds.{World, opening}
 use Rattle.dri_meaning.proofs.Laws.{foreign_entries, after_entries-append}
 use Rattle.dri_meaning.proofs.Stays.{made_stays}
-use Rattle.dri_shared.specs.States.{SharedState, world_of}
-use Rattle.dri_driver.specs.Clients.{ClientState, part_of}
-use Rattle.dri_driver.specs.Fits.{Fits, IsSameClient}
+use Rattle.dri_shared.specs.States.{SharedState}
+use Rattle.dri_driver.specs.Clients.{ClientState}
 use Rattle.dri_threads.specs.Sessions.{IsSeated, Grows, Works, is_at_rest}
-use Rattle.dri_threads.specs.Actors.{Stands, IsFound, seen_value, want_in}
-use Rattle.dri_threads.specs.declared.actor.Want.{Want}
+use Rattle.dri_threads.specs.Actors.{Stands, IsFound, want_in}
 use Rattle.dri_threads.specs.declared.actor.Want.TheVariants.{Act, Learn, Nothing}
 
 some_same : {A : Type 0} (a b : A) → Some a ≡ Some b → a ≡ b

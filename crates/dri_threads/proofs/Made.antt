@@ -1,8 +1,8 @@
 -- A client and the value after one event.
 use Rattle.std.specs.Prelude.{Result, Ok, Err, OnOk, OnErr}
-use Rattle.std.proofs.Common.{◌≡◌, ◌⊎◌, ℕ, ◌+◌, ◌≤◌, List, Bool, true, false, Option, Some, refl, sym, ap, ◌∙◌, subst, arith}
+use Rattle.std.proofs.Common.{◌≡◌, ◌⊎◌, ℕ, ◌+◌, ◌≤◌, true, false, refl, sym, ap, ◌∙◌, subst, arith}
 use Rattle.dri_base.specs.declared.journal.Entry.{Entry}
-use Rattle.dri_base.specs.declared.journal.Entry.TheVariants.{Gone, Info, Change, Leave}
+use Rattle.dri_base.specs.declared.journal.Entry.TheVariants.{Gone, Info, Change}
 use Rattle.dri_meaning.specs.Effects.{after_leave}
 use Rattle.dri_meaning.specs.EntryTable.{after_entry}
 use Rattle.dri_meaning.specs.Phases as Phase_is
@@ -14,9 +14,9 @@ use Rattle.dri_shared.specs.Sides.{value_at}
 use Rattle.dri_shared.specs.States.{SharedState, Added, IsSameRun, world_of}
 use Rattle.dri_shared.specs.declared.answers.Told.{Told}
 use Rattle.dri_shared.specs.declared.client_side.ClientSide.{ClientSide}
-use Rattle.dri_driver.specs.Acts.{IfRan, IsActing, event_of, next_event}
-use Rattle.dri_driver.specs.Clients.{ClientState, next_command, part_of}
-use Rattle.dri_driver.specs.Fits.{Fits, HasMade, IsSameClient}
+use Rattle.dri_driver.specs.Acts.{IfRan}
+use Rattle.dri_driver.specs.Clients.{ClientState, part_of}
+use Rattle.dri_driver.specs.Fits.{Fits, HasMade}
 use Rattle.dri_driver.specs.Needs.{entries_left}
 use Rattle.dri_driver.specs.declared.answers.Acted.{Acted}
 use Rattle.dri_driver.specs.declared.answers.Acted.TheVariants.{Ran, MustLeave, Dies, Done}

@@ -2,9 +2,8 @@
 use Rattle.std.proofs.Common.{◌≡◌, ◌≢◌, ◌⊎◌, ℕ, zero, suc, ◌+◌, ◌<◌, ◌≤◌, List, [], ◌∷◌, ◌++◌, length, get_or, Bool, true, false, Option, Some, None, refl, sym, ap, ◌∙◌, subst, arith, inl, inr, length-append}
 use Rattle.std.proofs.lemmas.List.{length-map}
 use Rattle.std.specs.Prelude.{AllPairs, Contains, IfErr, IfOk, IfSome, Err, Ok, Result, option_to_list, slice_get, ◌-◌}
-use Rattle.std.specs.Option.{option_map}
 use Rattle.dri_base.specs.declared.scene.ClientScript.{ClientScript}
-use Rattle.std.proofs.lemmas.Option.{get_or_from_slice_get, slice_get-get_or, slice_get-map, slice_get_within}
+use Rattle.std.proofs.lemmas.Option.{get_or_from_slice_get, slice_get-get_or, slice_get_within}
 use mathlib.Core.Option.{some}
 use lib.ListN.{get_elem?}
 use Rattle.dri_base.specs.Ranges.{InRange, client_numbers}
@@ -16,8 +15,7 @@ use Rattle.dri_hwlock.specs.declared.guarded.Guarded.{Ghosts}
 use Rattle.dri_hwlock.specs.declared.tokens.Pass.{Pass}
 use Rattle.dri_hwlock.specs.Tokens.{Token, LockId, AreNew, IsSuccessor, pass_token, new_token}
 use Rattle.dri_hwlock.proofs.Lists.{at_end, at_before, at_length}
-use Rattle.dri_meaning.specs.Phases as Phase_is
-use Rattle.dri_meaning.specs.Phases.{Phase, first_phase, is_done}
+use Rattle.dri_meaning.specs.Phases.{first_phase, is_done}
 use Rattle.dri_meaning.specs.Privates.{opening_part}
 use Rattle.dri_meaning.specs.Runs.{after}
 use Rattle.dri_driver.specs.Clients.{ClientState}

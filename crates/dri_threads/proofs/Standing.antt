@@ -1,5 +1,5 @@
 -- A client by its token, before a hold and after it.
-use Rattle.std.proofs.Common.{◌≡◌, ◌≢◌, ◌⊎◌, ℕ, ◌+◌, ◌<◌, ◌≤◌, length, List, Bool, true, false, Some, refl, sym, ap, ◌∙◌, subst, arith}
+use Rattle.std.proofs.Common.{◌≡◌, ◌≢◌, ◌⊎◌, ℕ, ◌+◌, ◌<◌, length, true, false, Some, sym, ap, ◌∙◌, subst, arith}
 use Rattle.dri_base.specs.declared.journal.Entry.{Entry}
 use Rattle.dri_base.specs.declared.scene.Scene.{Scene}
 use Rattle.dri_hwlock.specs.Entries.{StartsWith, mine}
@@ -7,7 +7,7 @@ use Rattle.dri_hwlock.specs.Tokens.{Token, IsSuccessor, IsAfterLooks, after_look
 use Rattle.dri_meaning.specs.Runs.{after, context_of}
 use Rattle.dri_shared.specs.States.{SharedState, world_of}
 use Rattle.dri_driver.specs.Clients.{ClientState}
-use Rattle.dri_threads.specs.Sessions.{IsSeated, Grows, Works, is_at_rest}
+use Rattle.dri_threads.specs.Sessions.{Grows, Works, is_at_rest}
 use Rattle.dri_threads.specs.Actors.{Stands, IsFound}
 use Rattle.dri_threads.proofs.Found.{stands_again, made_later}
 

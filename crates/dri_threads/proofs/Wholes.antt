@@ -1,5 +1,5 @@
 -- Where no actor gave up, the journal of the closed lock is whole.
-use Rattle.std.proofs.Common.{◌≡◌, ℕ, zero, suc, ◌+◌, ◌<◌, List, [], ◌∷◌, length, Bool, true, false, refl, sym, ap, ◌∙◌, subst, arith}
+use Rattle.std.proofs.Common.{◌≡◌, ℕ, zero, suc, ◌<◌, List, [], ◌∷◌, length, Bool, true, false, refl, ap, ◌∙◌, subst, arith}
 use Rattle.std.specs.Prelude.{Contains}
 use mathlib.Core.Option.{some}
 use lib.ListN.{get_elem?}
@@ -12,7 +12,6 @@ use Rattle.dri_hwlock.specs.Tokens.{LockId, BeginsWithEach, pass_token}
 use Rattle.dri_meaning.specs.Phases.{is_done}
 use Rattle.dri_meaning.specs.Runs.{after, HoldRun, Whole}
 use Rattle.dri_meaning.proofs.Stays.{all_made_stays, done_stays, whole_by_parts}
-use Rattle.dri_threads.specs.Actors.{IsNumber}
 use Rattle.dri_threads.specs.Rounds.{AreServed, IsEnough}
 use Rattle.dri_threads.proofs.Rounds.{number_below, number_within}
 

@@ -1,21 +1,20 @@
 -- Entries of a client, one after the other.
-use Rattle.std.proofs.Common.{◌≡◌, ◌≢◌, ◌⊎◌, ℕ, zero, suc, ◌+◌, ◌-◌, ◌<◌, ◌≤◌, List, [], ◌∷◌, ◌++◌, length, Bool, true, false, Option, Some, None, refl, sym, ap, ◌∙◌, subst, arith, inl, inr}
-use Rattle.std.specs.Prelude.{pred, if◌then◌else◌, Contains}
+use Rattle.std.proofs.Common.{◌≡◌, ◌⊎◌, ℕ, ◌+◌, ◌≤◌, List, [], ◌∷◌, ◌++◌, Bool, true, false, refl, sym, ap, ◌∙◌, subst, arith, inl, inr}
+use Rattle.std.specs.Prelude.{Contains}
 use mathlib.Core.List.{append_assoc, append-nil}
 use Rattle.dri_base.specs.Ranges.{client_numbers}
 use Rattle.dri_base.specs.declared.scene.Scene.{Scene}
 use Rattle.dri_base.specs.declared.journal.Entry.{Entry}
-use Rattle.dri_base.specs.declared.journal.Entry.TheVariants as Entry_is
 use Rattle.dri_meaning.specs.Phases as Phase_is
 use Rattle.dri_meaning.specs.Phases.{Phase, left_from}
-use Rattle.dri_meaning.specs.EntryTable.{after_entry, LegalEntry}
+use Rattle.dri_meaning.specs.EntryTable.{after_entry}
 use Rattle.dri_meaning.specs.Runs.{after, client_of, context_of}
 use Rattle.dri_meaning.specs.Worlds.{World}
-use Rattle.dri_hwlock.specs.Entries.{Adds, AllOf}
-use Rattle.dri_shared.specs.States.{SharedState, Added, IsSameRun, MayAdd, world_of}
+use Rattle.dri_hwlock.specs.Entries.{AllOf}
+use Rattle.dri_shared.specs.States.{SharedState, Added, IsSameRun, world_of}
 use Rattle.dri_driver.specs.Acts.{IsActing}
 use Rattle.dri_driver.specs.Clients.{ClientState}
-use Rattle.dri_driver.specs.Fits.{Fits, IsSameClient}
+use Rattle.dri_driver.specs.Fits.{IsSameClient}
 use Rattle.dri_driver.specs.Needs.{entries_left}
 use Rattle.dri_driver.proofs.Fitting.{world_added}
 use Rattle.dri_threads.specs.Sessions.{IsSeated, Makes, Grows, Works, is_at_rest}

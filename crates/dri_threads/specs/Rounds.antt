@@ -1,5 +1,5 @@
 -- Passes and clients, before all actors run and after. The pass at place n is that of client n, and the first that of the server.
-use Rattle.std.specs.Prelude.{◌≡◌, ◌≤◌, ℕ, ◌+◌, ◌<◌, List, [], length, Some, Bool, true, false, Contains, slice_get}
+use Rattle.std.specs.Prelude.{◌≡◌, ◌≤◌, ℕ, ◌+◌, ◌<◌, List, length, Some, Bool, true, false, Contains, slice_get}
 use Rattle.std.specs.List.{All}
 use mathlib.Core.Option.{some}
 use lib.ListN.{get_elem?}

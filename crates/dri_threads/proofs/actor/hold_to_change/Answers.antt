@@ -1,7 +1,7 @@
-use Rattle.std.proofs.Common.{sym, subst, ap, ◌∙◌, ℕ, ◌<◌, length}
+use Rattle.std.proofs.Common.{ap, ◌∙◌}
 use Rattle.dri_base.specs.declared.scene.Scene.{Scene}
 use Rattle.dri_base.specs.declared.journal.Entry.{Entry}
-use Rattle.dri_hwlock.specs.Tokens.{Token, pass_token, hold_token, value_in}
+use Rattle.dri_hwlock.specs.Tokens.{Token, pass_token, value_in}
 use Rattle.dri_shared.specs.States.{SharedState, world_of}
 use Rattle.dri_threads.proofs.Found.{adds_found, base_found}
 use Rattle.dri_threads.proofs.Standing.{hold_found, left_found, made_found, made_again}

@@ -1,4 +1,4 @@
-use Rattle.std.proofs.Common.{rules, sym}
+use Rattle.std.proofs.Common.{rules}
 use Rattle.dri_threads.proofs.Rounds.{other_last, popped_last}
 use Rattle.dri_threads.proofs.run.last_client.Goals as goal
 

@@ -1,5 +1,4 @@
 use Rattle.std.proofs.Common.{refl}
-use Rattle.dri_base.specs.declared.journal.Entry.TheVariants.{Change}
 use Rattle.dri_threads.proofs.Made.{change_made, one_grows, one_left}
 use Rattle.dri_threads.proofs.Working.{grows_none}
 use Rattle.dri_threads.proofs.session.change_session.Goals as goal
