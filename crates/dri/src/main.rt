@@ -1,13 +1,16 @@
-//! The program: the top call over standard input, standard output as picture and standard error as notes.
+//! The program: the top calls over standard input, standard output as picture and standard error as notes.
 #![tactic(auto)]
 
+use dri_base::OutOfMemory;
 use dri_io::{StdSink, StdSource};
-use dri_run::drive;
+use dri_run::{Status, drive, drive_run, is_run, tell};
+use dri_threads::AlwaysOpen;
+use std::io::ErrorKind;
 use std::process::ExitCode;
 use std::{env, io};
 
 /// The words of the command line, without the program's name.
-fn words_of(rt: &HostRuntime) -> io::Result<Vec<String>> {
+fn collected(rt: &HostRuntime) -> io::Result<Vec<String>> {
     let mut words = Vec::new(rt.alloc());
     for word in env::args(rt)?.skip(1) {
         words.push(word)?;
@@ -15,21 +18,52 @@ fn words_of(rt: &HostRuntime) -> io::Result<Vec<String>> {
     Ok(words)
 }
 
-/// Ends with the status's number. Words that are no text count as words of no form.
+/// The words that the program goes by. Words that are no text count as words of no form.
+fn words_of(rt: &HostRuntime) -> Result<Vec<String>, OutOfMemory> {
+    match collected(rt) {
+        Ok(words) => Ok(words),
+        Err(fault) => {
+            if fault.kind() == ErrorKind::OutOfMemory {
+                Err(OutOfMemory)
+            } else {
+                Ok(Vec::new(rt.alloc()))
+            }
+        }
+    }
+}
+
+/// Does what the words say, and ends with the status's number. The one word `run` asks for clients in threads, with a
+/// gate that is open.
 fn main(rt: HostRuntime) -> ExitCode {
-    let mut notes = StdSink::new(rt.stderr());
-    let mut picture = StdSink::new(rt.stdout());
     let mut input = StdSource::new(rt.stdin());
-    let words = match words_of(&rt) {
-        Ok(words) => words,
-        Err(_) => Vec::new(rt.alloc()),
+    let mut picture = StdSink::new(rt.stdout());
+    let mut notes = StdSink::new(rt.stderr());
+    let status = match words_of(&rt) {
+        Ok(words) => {
+            let alloc = rt.alloc();
+            if is_run(words.as_slice()) {
+                drive_run(
+                    &rt,
+                    alloc,
+                    &AlwaysOpen,
+                    &mut input,
+                    &mut picture,
+                    &mut notes,
+                )
+            } else {
+                drive(
+                    alloc,
+                    words.as_slice(),
+                    &mut input,
+                    &mut picture,
+                    &mut notes,
+                )
+            }
+        }
+        Err(OutOfMemory) => {
+            tell(Status::OutOfMemory, &mut notes);
+            Status::OutOfMemory
+        }
     };
-    let status = drive(
-        rt.alloc(),
-        words.as_slice(),
-        &mut input,
-        &mut picture,
-        &mut notes,
-    );
     ExitCode::from(status.code())
 }

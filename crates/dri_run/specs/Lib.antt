@@ -5,3 +5,4 @@ pub mod Forms
 pub mod Gains
 pub mod Outcome
 pub mod ScheduledRun
+pub mod ThreadedRun

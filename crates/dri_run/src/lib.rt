@@ -8,10 +8,13 @@ mod ppm;
 mod printing;
 mod reading;
 mod status;
+mod threaded;
 mod top;
+mod top_threads;
 mod writing;
 
 pub use form::is_run;
 pub use status::Status;
 pub use top::drive;
+pub use top_threads::drive_run;
 pub use writing::tell;

@@ -2,7 +2,8 @@
 #![tactic(auto)]
 
 #[cfg(test)]
+mod beside;
+#[cfg(test)]
 mod run;
-
 #[cfg(test)]
 mod threads;

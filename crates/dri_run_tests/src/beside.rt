@@ -1,0 +1,206 @@
+//! Clients in threads, as calls of the top call, with gates that hold one client up until another has come.
+
+ghost use Rattle.std.specs.Prelude.{◌<◌, ◌≤◌};
+
+use dri_base::Bytes;
+use dri_io::{CallList, MemorySink, NeverFails};
+use dri_run::{Status, drive_run};
+use dri_threads::{AlwaysOpen, Gate, GatePoint};
+use std::alloc::Global;
+use std::process::Abort;
+use std::sync::Wait;
+use std::sync::atomic::{AtomicU32, Ordering};
+use std::test::Fail;
+use std::thread::Threads;
+
+/// Two clients, side by side.
+const PAIR: &str =
+    "dri 1\nscreen 4 2 000000\nheap 1 256\nwindow 1 0 0 2 2 111111 1 up\nwindow 2 2 0 2 2 222222 2 up\nclient 1 1\nclear ff0000 65535\ntriangle 0 0 0 0000ffff 0 0 64 0 0 0000ffff 0 0 0 64 0 0000ffff 0 0\ntriangle 0 0 0 ffffffff 0 0 64 0 0 ffffffff 0 0 0 64 0 ffffffff 0 0\nswap\nend\nclient 2 2\nclear 00ff00 65535\nswap\nend\ndone\n";
+
+const PAIR_PIXELS: &[u8] =
+    b"P6\n4 2\n255\n\xff\xff\xff\xff\xff\xff\x00\xff\x00\x00\xff\x00\xff\xff\xff\xff\xff\xff\x00\xff\x00\x00\xff\x00";
+
+/// Two frames of one client. Its second hold is light, since no other actor wants the lock.
+const ALONE: &str =
+    "dri 1\nscreen 2 1 000000\nheap 1 256\nwindow 1 0 0 2 1 111111 1 up\nclient 1 1\nclear ff0000 65535\nswap\nclear 0000ff 65535\nswap\nend\ndone\n";
+
+const ALONE_PIXELS: &[u8] = b"P6\n2 1\n255\n\x00\x00\xff\x00\x00\xff";
+
+const ALONE_JOURNAL: &[u8] =
+    b"journal 1\nkernel 1 1\nstale 1\nleave 1\ninfo 1\nkernel 1 1\nrun 1 1\nrun 1 2\nleave 1\nlight 1\nrun 1 3\nrun 1 4\nleave 1\ndone\n";
+
+/// Holds client 1 at its first such point until client 2 has been at the other.
+#[derive(Drop)]
+struct Meeting {
+    point: GatePoint,
+    came: AtomicU32,
+    tried: AtomicU32,
+    met: AtomicU32,
+}
+
+impl Gate for Meeting {
+    fn at(&self, actor: u32, point: GatePoint) {
+        if actor == 2 && point != self.point {
+            self.came.store(1, Ordering::SeqCst);
+        }
+        if actor == 1 && point == self.point && self.tried.swap(1, Ordering::SeqCst) == 0 {
+            self.met.store(comes(&self.came), Ordering::SeqCst);
+        }
+    }
+}
+
+/// 1 where the other comes within some time.
+fn comes(came: &AtomicU32) -> u32 {
+    for _ in 0..16777216 {
+        if came.load(Ordering::SeqCst) == 1 {
+            return 1;
+        }
+    }
+    0
+}
+
+/// Runs a scene's text, and compares the picture and the beginning of the notes.
+fn runs<R: Threads + Wait + Abort + Sync, G: Gate + Sync>(
+    rt: &R,
+    alloc: Global,
+    gate: &G,
+    text: Bytes,
+    picture: &[u8],
+    notes: &[u8],
+) -> Result<(), Fail> {
+    let mut input = NeverFails::new(text, 4096);
+    let mut shown = MemorySink::new(alloc, 1_000_000, 4096, CallList::new(alloc))?;
+    let mut told = MemorySink::new(alloc, 1_000_000, 4096, CallList::new(alloc))?;
+    let status = drive_run(rt, alloc, gate, &mut input, &mut shown, &mut told);
+    assert_eq!(rt; status, Status::Done);
+    assert!(rt; shown.bytes().starts_with(picture));
+    assert!(rt; told.bytes().starts_with(notes));
+    Ok(())
+}
+
+/// Runs a scene's text with client 1 held at a point, and looks that both clients met.
+fn meets<R: Threads + Wait + Abort + Sync>(
+    rt: &R,
+    alloc: Global,
+    point: GatePoint,
+    text: Bytes,
+    picture: &[u8],
+    notes: &[u8],
+) -> Result<(), Fail> {
+    let gate = Meeting {
+        point,
+        came: AtomicU32::new(0),
+        tried: AtomicU32::new(0),
+        met: AtomicU32::new(0),
+    };
+    runs(rt, alloc, &gate, text, picture, notes)?;
+    assert_eq!(rt; gate.met.load(Ordering::SeqCst), 1);
+    Ok(())
+}
+
+/// A text in memory.
+fn bytes_of(alloc: Global, text: &str) -> Result<Bytes, Fail> {
+    Ok(Bytes::from_vec(text.as_bytes().to_vec(alloc)?))
+}
+
+/// Puts a texture's line last.
+fn push_texture(alloc: Global, text: &mut String, client: u32, texture: u32) -> Result<(), Fail>
+    requires client { client ≤ 4 }
+    requires texture { texture ≤ 3 }
+{
+    text.push_str(format!(in alloc; "texture {texture} l8 64 64 ")?.as_str())?;
+    for place in 0..4096_u32 {
+        let value = (place % 64 * texture + place / 64 * client) % 256;
+        text.push_str(format!(in alloc; "{value:02x}")?.as_str())?;
+    }
+    text.push_str("\n")?;
+    Ok(())
+}
+
+/// Puts a client's block last: three textures, and twenty frames of two triangles.
+fn push_client(alloc: Global, text: &mut String, client: u32) -> Result<(), Fail>
+    requires { client ≤ 4 }
+{
+    text.push_str(format!(in alloc; "client {client} {client}\n")?.as_str())?;
+    push_texture(alloc, text, client, 1)?;
+    push_texture(alloc, text, client, 2)?;
+    push_texture(alloc, text, client, 3)?;
+    text.push_str("set depth less\nset write on\nset texmode modulate\n")?;
+    for frame in 1..21_u32 {
+        let red = 10 * frame;
+        let green = 7 * client;
+        let texture = (frame - 1) % 3 + 1;
+        let top = 16 * frame;
+        text.push_str(format!(in alloc;
+            "clear {red:02x}{green:02x}00 65535\nset bind {texture}\n"
+        )?.as_str())?;
+        text.push_str(
+            "triangle 0 0 1000 ffffffff 0 0 4480 0 1000 ffffffff 1023 0 0 3520 1000 ffffffff 0 1023\n",
+        )?;
+        text.push_str(format!(in alloc;
+            "triangle 4480 {top} 500 80ff80ff 0 0 4480 3520 500 80ff80ff 1023 0 0 3520 500 80ff80ff 0 1023\nswap\n"
+        )?.as_str())?;
+    }
+    text.push_str("end\n")?;
+    Ok(())
+}
+
+/// Puts four changes last, the last of which has this number.
+fn push_changes(alloc: Global, text: &mut String, last: u32) -> Result<(), Fail>
+    requires low { 4 ≤ last }
+    requires high { last ≤ 40 }
+{
+    let move_x = 53 * (last - 2) % 320;
+    let move_y = 29 * (last - 2) % 200;
+    let width = 200 + last;
+    let height = 150 + last;
+    let line = format!(in alloc;
+        "raise 1\nmove 2 {move_x} {move_y}\nlower 3\nresize 4 {width} {height}\n"
+    )?;
+    text.push_str(line.as_str())?;
+    Ok(())
+}
+
+/// The scene of four clients with twenty frames each, and forty changes.
+fn crowd(alloc: Global) -> Result<Bytes, Fail> {
+    let mut text = String::from_str(alloc, "dri 1\nscreen 640 480 203040\nheap 16 4096\n")?;
+    for window in 1..5_u32 {
+        let x = 61 * window;
+        let y = 43 * window;
+        let red = 7 * window;
+        text.push_str(format!(in alloc;
+            "window {window} {x} {y} 280 220 {red:02x}4080 {window} up\n"
+        )?.as_str())?;
+    }
+    for client in 1..5_u32 {
+        push_client(alloc, &mut text, client)?;
+    }
+    text.push_str("server\n")?;
+    for four in 1..11_u32 {
+        push_changes(alloc, &mut text, 4 * four)?;
+    }
+    text.push_str("end\ndone\n")?;
+    Ok(Bytes::from_vec(text.into_bytes()))
+}
+
+#[test]
+fn clients_meet(rt: HostRuntime) -> Result<(), Fail> {
+    let alloc = rt.alloc();
+    let begun = b"journal 1\nkernel ".as_slice();
+    let second = b"journal 1\nkernel 2 1\n".as_slice();
+    let rows = [(GatePoint::Holding, begun), (GatePoint::BeforeLock, second)];
+    for (point, notes) in rows {
+        let text = bytes_of(alloc, PAIR)?;
+        meets(&rt, alloc, point, text, PAIR_PIXELS, notes)?;
+    }
+    let text = crowd(alloc)?;
+    let picture = b"P6\n640 480\n255\n".as_slice();
+    meets(&rt, alloc, GatePoint::Holding, text, picture, begun)
+}
+
+#[test]
+fn one_client_alone(rt: HostRuntime) -> Result<(), Fail> {
+    let alloc = rt.alloc();
+    let text = bytes_of(alloc, ALONE)?;
+    runs(&rt, alloc, &AlwaysOpen, text, ALONE_PIXELS, ALONE_JOURNAL)
+}
