@@ -1,68 +1,9 @@
 ghost use Rattle.std.specs.Prelude.{◌≡◌, ◌++◌, ◌∷◌, [], if◌then◌else◌, IfSome};
 ghost use Rattle.dri_hwlock.specs.Tokens.{id_of, pass_token, hold_token, KeepsBase, AddsOwn, IsSuccessor};
 
-use dri_hwlock::{Guarded, Hold, HwLock, Left, Marked, Pass, Refused};
-use std::alloc::Global;
+use crate::notes::{Note, Notes, no_notes};
+use dri_hwlock::{Hold, HwLock, Left, Marked, Pass, Refused};
 use std::test::Fail;
-
-// An entry: a context and a number.
-#[derive(Clone, Copy, Drop)]
-pub struct Note {
-    pub context: u32,
-    pub number: u32,
-}
-
-#[derive(Drop)]
-pub struct Notes {
-    pub base: u32,
-    pub closer: u32,
-    pub notes: Vec<Note>,
-}
-
-impl Guarded for Notes {
-    type Base = u32;
-
-    type Entry = Note;
-
-    ghost base_of = { λ s. s.base };
-
-    ghost entries_of = { λ s. s.notes.items };
-
-    ghost context_of = { λ e. e.context };
-
-    ghost closer_of = { λ s. s.closer };
-
-    fn count(&self) -> u64 {
-        self.notes.len() as u64
-    }
-
-    fn closer(&self) -> u32 {
-        self.closer
-    }
-}
-
-impl Notes {
-    // Adds a note where there is memory, and becomes its context's.
-    fn add(&mut self, note: Note)
-        ensures base { self.new.base ≡ self.old.base }
-        ensures closer { self.new.closer ≡ note.context }
-        ensures notes { (added : _) × (self.new.notes.items
-            ≡ (if added then self.old.notes.items ++ note ∷ [] else self.old.notes.items)) }
-    {
-        self.closer = note.context;
-        let _ = self.notes.push(note);
-    }
-}
-
-fn no_notes(alloc: Global) -> Notes
-    ensures { (result.notes.items ≡ []) × (result.closer ≡ 1) }
-{
-    Notes {
-        base: 7,
-        closer: 1,
-        notes: Vec::new(alloc),
-    }
-}
 
 // Ends a hold through the kernel.
 fn give_up(lock: &HwLock<Notes>, hold: Hold<Notes>)
