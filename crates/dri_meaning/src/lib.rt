@@ -22,6 +22,8 @@ pub use later::{lasting, plain_in_range, whole_by_parts};
 pub use picture::{Picture, Pixels, SoloFault, solo_picture};
 pub use solo::solo_pixel;
 pub use worked::{
-    a_scissor, a_triangle, changed_beside, covered_and_uncovered, covered_whole, death,
-    killed_before, killed_in_a_hold, marked, two_blends, two_holds, two_textures,
+    a_scissor, a_triangle, changed_beside, changes_one_by_one, columns, covered_and_uncovered,
+    covered_in_part, covered_whole, death, death_of_two_windows, depths, killed_before,
+    killed_in_a_hold, marked, no_hold_runs, own_card, shown_again, stopped, two_blends, two_holds,
+    two_places, two_textures,
 };
