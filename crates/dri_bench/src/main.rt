@@ -9,9 +9,10 @@ mod tally;
 use std::process::ExitCode;
 use std::{env, io};
 
-/// The status of words of no form, and that of want of memory.
+/// The status of words of no form.
 const USAGE: u8 = 2;
 
+/// That of want of memory.
 const NO_MEMORY: u8 = 7;
 
 /// A part, and how often it is run.
@@ -21,7 +22,7 @@ enum Part {
     Contend(u32),
 }
 
-/// The part that the words name; `None` where they are of no form.
+/// The part that two words name, a part and a number; `None` where they are of no form.
 fn part_of(words: &[String]) -> Option<Part> {
     if words.len() != 2 {
         return None;
@@ -43,22 +44,22 @@ fn words_of(rt: &HostRuntime) -> io::Result<Vec<String>> {
     Ok(words)
 }
 
-/// Runs the part, and prints what its holds have left in the guarded value.
+/// Runs the parts, and prints for each what its holds have left.
 fn main(rt: HostRuntime) -> io::Result<ExitCode> {
     let words = words_of(&rt)?;
-    let Some(part) = part_of(words.as_slice()) else {
-        eprintln!(rt; "usage: dri_bench pairs|contend times")?;
-        return Ok(ExitCode::from(USAGE));
-    };
-    let sum = match part {
-        Part::Pairs(times) => pairs::run(&rt, rt.alloc(), times),
-        Part::Contend(times) => contend::run(&rt, rt.alloc(), times),
-    };
-    match sum {
-        Some(sum) => {
-            println!(rt; "{sum}")?;
-            Ok(ExitCode::from(0))
-        }
-        None => Ok(ExitCode::from(NO_MEMORY)),
+    for words in words.as_slice().chunks(2) {
+        let Some(part) = part_of(words) else {
+            eprintln!(rt; "usage: dri_bench [pairs|contend times]..")?;
+            return Ok(ExitCode::from(USAGE));
+        };
+        let left = match part {
+            Part::Pairs(times) => pairs::run(&rt, rt.alloc(), times),
+            Part::Contend(times) => contend::run(&rt, rt.alloc(), times),
+        };
+        let Some(left) = left else {
+            return Ok(ExitCode::from(NO_MEMORY));
+        };
+        println!(rt; "{left}")?;
     }
+    Ok(ExitCode::from(0))
 }

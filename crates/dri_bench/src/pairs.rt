@@ -39,7 +39,7 @@ impl Guarded for Bare {
     }
 }
 
-/// So many pairs, and the number of those that were light. `None` for want of memory.
+/// So many pairs; the number of holds that weren't got lightly, which is 1. `None` for want of memory.
 pub fn run(rt: &impl Wait, alloc: Global, times: u32) -> Option<u64> {
     let Ok((lock, mut passes)) = HwLock::new(alloc, Bare { closer: 1 }, 2) else {
         return None;
@@ -61,20 +61,18 @@ fn light_pairs(
     requires client { (pass_token pass).context ≡ 2 }
 {
     let mut pass = pass;
-    let mut light: u64 = 0;
+    let mut late: u64 = 0;
     for _ in 0..times {
         let hold = match lock.light(pass) {
-            Ok(hold) => {
-                light = light.wrapping_add(1);
-                hold
-            }
-            Err(late) => {
-                let mut hold = kernel.lock(rt, lock, 1, late);
+            Ok(hold) => hold,
+            Err(token) => {
+                late = late.wrapping_add(1);
+                let mut hold = kernel.lock(rt, lock, 1, token);
                 hold.value().closer = 2;
                 hold
             }
         };
         pass = kernel.unlock(rt, lock, hold);
     }
-    light
+    late
 }

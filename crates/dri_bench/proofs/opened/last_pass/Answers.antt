@@ -1,4 +1,4 @@
-use Rattle.std.proofs.Common.{arith, ap, ◌≡◌, ◌∙◌, ◌-◌, ◌+◌, length, suc}
+use Rattle.std.proofs.Common.{arith, ap, ◌-◌}
 use Rattle.dri_hwlock.proofs.PassLists.{last_new}
 use Rattle.dri_bench.proofs.opened.last_pass.Goals as goal
 
