@@ -508,19 +508,21 @@ const FIRST: Item = Item::Turn { actor: 1 };
 
 const SECOND: Item = Item::Turn { actor: 2 };
 
+const TRIANGLE: Case = Case {
+    width: 4,
+    height: 4,
+    windows: &[WHOLE],
+    texels: &[],
+    scripts: &[&[CLEAR_BLACK, RED_TRIANGLE, Command::Swap]],
+    changes: &[],
+    turns: &[],
+    words: [1, 2],
+    journal: ONE_TRIANGLE,
+    pixels: &[(0, RED), (2, RED), (3, BLACK), (5, RED), (6, BLACK)],
+};
+
 const CASES: [Case; 6] = [
-    Case {
-        width: 4,
-        height: 4,
-        windows: &[WHOLE],
-        texels: &[],
-        scripts: &[&[CLEAR_BLACK, RED_TRIANGLE, Command::Swap]],
-        changes: &[],
-        turns: &[],
-        words: [1, 2],
-        journal: ONE_TRIANGLE,
-        pixels: &[(0, RED), (2, RED), (3, BLACK), (5, RED), (6, BLACK)],
-    },
+    TRIANGLE,
     Case {
         width: 4,
         height: 4,
@@ -675,18 +677,26 @@ fn scene(alloc: Global, case: &Case) -> Result<Scene, OutOfMemory> {
     })
 }
 
-/// Plays a case, and compares the word, the journal and the shared area's word.
-fn played(rt: &impl Abort, alloc: Global, case: &Case) -> Result<World, Fail> {
+/// The world of a case.
+fn opened(rt: &impl Abort, alloc: Global, case: &Case) -> Result<World, Fail> {
     let scene = scene(alloc, case)?;
     assert!(rt; scene.in_range());
-    let mut world = World::new(alloc, Arc::new(alloc, scene)?)?;
-    world.run_schedule(alloc)?;
-    assert!(rt; world.word() == case.words[0]);
-    world.finish(alloc)?;
-    assert!(rt; world.word() == case.words[1]);
-    assert!(rt; world.sarea(alloc)?.word() == world.word());
-    assert!(rt; world.journal() == case.journal);
+    let world = World::new(alloc, Arc::new(alloc, scene)?)?;
     Ok(world)
+}
+
+/// Plays a world, and compares the word on the way.
+fn play(
+    rt: &impl Abort,
+    alloc: Global,
+    world: &mut World,
+    words: &[u32; 2],
+) -> Result<(), OutOfMemory> {
+    world.run_schedule(alloc)?;
+    assert!(rt; world.word() == words[0]);
+    world.finish(alloc)?;
+    assert!(rt; world.word() == words[1]);
+    Ok(())
 }
 
 /// Compares pixels of the screen.
@@ -696,22 +706,38 @@ fn shows(rt: &impl Abort, world: &World, pixels: &[(usize, Rgb)]) {
     }
 }
 
-#[test]
-fn worked_scenes(rt: HostRuntime) -> Result<(), Fail> {
-    for case in &CASES {
-        let world = played(&rt, rt.alloc(), case)?;
-        shows(&rt, &world, case.pixels);
+/// Compares what a world answers with the case.
+fn answers(rt: &impl Abort, alloc: Global, world: &World, case: &Case) -> Result<(), OutOfMemory> {
+    assert!(rt; world.journal() == case.journal);
+    shows(rt, world, case.pixels);
+    let area = world.sarea(alloc)?;
+    assert!(rt; area.word() == world.word());
+    Ok(())
+}
+
+/// Plays a case.
+fn holds(rt: &impl Abort, alloc: Global, case: &Case) -> Result<(), Fail> {
+    let mut world = opened(rt, alloc, case)?;
+    play(rt, alloc, &mut world, &case.words)?;
+    answers(rt, alloc, &world, case)?;
+    Ok(())
+}
+
+/// Plays each case.
+fn each_holds(rt: &impl Abort, alloc: Global, cases: &[Case]) -> Result<(), Fail> {
+    for case in cases {
+        holds(rt, alloc, case)?;
     }
     Ok(())
 }
 
-/// A turn of the server, which has nothing to do, and the first event of the rounds.
 #[test]
-fn one_turn(rt: HostRuntime) -> Result<(), Fail> {
-    let alloc = rt.alloc();
-    let scene = scene(alloc, &CASES[0])?;
-    assert!(rt; scene.in_range());
-    let mut world = World::new(alloc, Arc::new(alloc, scene)?)?;
+fn worked_scenes(rt: HostRuntime) -> Result<(), Fail> {
+    each_holds(&rt, rt.alloc(), &CASES)
+}
+
+/// A turn of the server, which has nothing to do, and the first event of the rounds.
+fn turns(rt: &impl Abort, alloc: Global, world: &mut World) -> Result<(), OutOfMemory> {
     assert!(rt; world.turn(alloc, 0)? == Turned::Passed);
     world.finish(alloc)?;
     let first = Event::Kernel {
@@ -719,5 +745,12 @@ fn one_turn(rt: HostRuntime) -> Result<(), Fail> {
         found: 1,
     };
     assert!(rt; world.events().first().copied() == Some(first));
+    Ok(())
+}
+
+#[test]
+fn one_turn(rt: HostRuntime) -> Result<(), Fail> {
+    let mut world = opened(&rt, rt.alloc(), &TRIANGLE)?;
+    turns(&rt, rt.alloc(), &mut world)?;
     Ok(())
 }
