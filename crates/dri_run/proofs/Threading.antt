@@ -13,6 +13,7 @@ use Rattle.dri_run.proofs.Spellings.{text_determines}
 
 determines : (journal : List Entry) (text : List ℕ) → All FitsWords journal → text ≡ journal_text journal → Determines text journal
 determines journal text fits spelled = record {
+  fits = fits;
   spelled = spelled;
   alone = λ other fit same. text_determines other journal fit fits (sym same ∙ spelled);
 }

@@ -20,8 +20,9 @@ pub record IsJournalOf (scene : Scene) (journal : List Entry) : Type 0 where
   -- nobody holds, every client is ended or dead, and all changes were made
   pub whole : Whole scene journal
 
--- the bytes are the text of this journal and of no other
+-- the journal's numbers have 32 bits, and the bytes are the text of this journal and of no other such
 pub record Determines (text : List ℕ) (journal : List Entry) : Type 0 where
+  pub fits : All FitsWords journal
   pub spelled : text ≡ journal_text journal
   pub alone : (other : List Entry) → All FitsWords other → text ≡ journal_text other → other ≡ journal
 

@@ -11,7 +11,7 @@ use std::process::Abort;
 use std::sync::Wait;
 use std::sync::atomic::{AtomicU32, Ordering};
 use std::test::Fail;
-use std::thread::Threads;
+use std::thread::{Threads, yield_now};
 
 /// Two clients, side by side.
 const PAIR: &str =
@@ -49,9 +49,13 @@ impl Gate for Meeting {
     }
 }
 
+/// How often a gate looks whether the other has come.
+const MOST_LOOKS: u32 = 16_777_216;
+
 /// 1 where the other comes within some time.
 fn comes(came: &AtomicU32) -> u32 {
-    for _ in 0..16777216 {
+    for _ in 0..MOST_LOOKS {
+        yield_now();
         if came.load(Ordering::SeqCst) == 1 {
             return 1;
         }

@@ -7,7 +7,7 @@ use std::alloc::Global;
 use std::sync::atomic::{AtomicU32, Ordering};
 use std::sync::{Arc, Wait};
 use std::test::Fail;
-use std::thread::Threads;
+use std::thread::{Threads, yield_now};
 
 /// Client 2 dies in its third hold, in which it has drawn.
 const DIES: &str =
@@ -60,9 +60,13 @@ impl Gate for Deathbed {
     }
 }
 
+// How often a gate looks whether a count has come to a number.
+const MOST_LOOKS: u32 = 16_777_216;
+
 // Whether the count comes to the number within some time.
 fn comes_to(count: &AtomicU32, number: u32) -> bool {
-    for _ in 0..16777216 {
+    for _ in 0..MOST_LOOKS {
+        yield_now();
         if number <= count.load(Ordering::SeqCst) {
             return true;
         }
