@@ -340,12 +340,17 @@ fn bytes_of(alloc: Global, parts: &[(&str, u32)]) -> Result<Bytes, Fail> {
     Ok(Bytes::from_vec(text))
 }
 
+/// Compares what a sink holds.
+fn compares(rt: &impl Abort, held: &[u8], wanted: &[u8]) {
+    assert!(rt; held == wanted);
+}
+
 /// Runs a case, and compares all that the program answers.
 fn holds(rt: &impl Abort, alloc: Global, case: &Case) -> Result<(), Fail> {
-    let Case(line, text, [read, write, note], code, pixels, told) = case;
-    let mut input = MemorySource::new(bytes_of(alloc, text)?, 64, calls(alloc, *read)?);
-    let mut picture = MemorySink::new(alloc, 128, 8, calls(alloc, *write)?)?;
-    let mut notes = MemorySink::new(alloc, 512, 8, calls(alloc, *note)?)?;
+    let Case(line, text, [read, write, note], code, pixels, told) = *case;
+    let mut input = MemorySource::new(bytes_of(alloc, text)?, 64, calls(alloc, read)?);
+    let mut picture = MemorySink::new(alloc, 128, 8, calls(alloc, write)?)?;
+    let mut notes = MemorySink::new(alloc, 512, 8, calls(alloc, note)?)?;
     let words = words_of(alloc, line)?;
     let status = drive(
         alloc,
@@ -354,9 +359,9 @@ fn holds(rt: &impl Abort, alloc: Global, case: &Case) -> Result<(), Fail> {
         &mut picture,
         &mut notes,
     );
-    assert!(rt; status.code() == *code);
-    assert!(rt; picture.bytes() == *pixels);
-    assert!(rt; notes.bytes() == told.as_bytes());
+    assert!(rt; status.code() == code);
+    compares(rt, picture.bytes(), pixels);
+    compares(rt, notes.bytes(), told.as_bytes());
     Ok(())
 }
 
