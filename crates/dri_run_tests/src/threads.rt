@@ -109,6 +109,7 @@ fn all_end(rt: HostRuntime) -> Result<(), Fail> {
         assert!(rt; !short);
         assert!(rt; shared.holder().is_none());
         let row = shared.front().pixels();
+        assert!(rt; 4 < row.len());
         assert!(rt; row[0] == Rgb { r: 255, g: 0, b: 0 });
         assert!(rt; row[2] == Rgb { r: 0, g: 0, b: 0 });
         assert!(rt; row[4] == Rgb { r: 0, g: 0, b: 255 });
