@@ -199,7 +199,9 @@ fn clients_meet(rt: HostRuntime) -> Result<(), Fail> {
     }
     let text = crowd(alloc)?;
     let picture = b"P6\n640 480\n255\n".as_slice();
-    meets(&rt, alloc, GatePoint::Holding, text, picture, begun)
+    // (the server may come first)
+    let title = b"journal 1\n".as_slice();
+    meets(&rt, alloc, GatePoint::Holding, text, picture, title)
 }
 
 #[test]
