@@ -7,9 +7,9 @@ use Rattle.std.proofs.lemmas.Option.{get_or_from_slice_get, slice_get_within}
 use Rattle.dri_base.specs.declared.command.Command.{Command}
 use Rattle.dri_base.specs.declared.command.Command.TheVariants as Command_is
 use Rattle.dri_base.specs.Scenes.{commands_of}
-use Rattle.dri_meaning.specs.Effects.{is_last}
-use Rattle.dri_meaning.specs.Phases.{Phase, Out, Old, In, Over, first_phase, phase_after}
-use Rattle.dri_meaning.specs.Privates.{Private, is_ready}
+use Rattle.dri_core.specs.Effects.{is_last}
+use Rattle.dri_core.specs.Phases.{Phase, Out, Old, In, Over, first_phase, phase_after}
+use Rattle.dri_core.specs.Privates.{Private, is_ready}
 use Rattle.dri_model.specs.Groups.{is_empty}
 use Rattle.dri_driver.specs.Clients.{ClientState, part_of, next_command, script_of_client}
 use Rattle.dri_driver.specs.Kept.{GoesOn, IsKept}

@@ -5,16 +5,16 @@ use Rattle.dri_base.specs.declared.journal.Entry.{Entry}
 use Rattle.dri_base.specs.declared.journal.Entry.TheVariants as Entry_is
 use Rattle.dri_base.specs.declared.scene.Scene.{Scene}
 use Rattle.dri_base.specs.Scenes.{window_of}
-use Rattle.dri_meaning.specs.EntryTable.{after_entry}
-use Rattle.dri_meaning.specs.Effects.{after_leave, is_last}
-use Rattle.dri_meaning.specs.Phases.{Phase, In, Old, Ask, left_from}
-use Rattle.dri_meaning.specs.Privates.{Private, is_bound_lost}
+use Rattle.dri_core.specs.EntryTable.{after_entry}
+use Rattle.dri_core.specs.Effects.{after_leave, is_last}
+use Rattle.dri_core.specs.Phases.{Phase, In, Old, Ask, left_from}
+use Rattle.dri_core.specs.Privates.{Private, is_bound_lost}
 use Rattle.dri_model.specs.Groups.{all_where, with_bound}
 use Rattle.dri_model.specs.Heaps.{Heap, is_newer, lose}
-use Rattle.dri_meaning.specs.Runs.{after}
-use Rattle.dri_meaning.specs.Worlds.{World, put}
-use Rattle.dri_meaning.proofs.Laws.{after-push}
-use Rattle.dri_meaning.proofs.Parts.{put_here}
+use Rattle.dri_core.specs.Runs.{after}
+use Rattle.dri_core.specs.Worlds.{World, put}
+use Rattle.dri_core.proofs.Laws.{after-push}
+use Rattle.dri_core.proofs.Parts.{put_here}
 use Rattle.dri_shared.specs.Sides.{Makes, MayMake, client_at, value_at, world_at}
 use Rattle.dri_shared.specs.States.{Added, SharedState, world_of}
 use Rattle.dri_shared.specs.declared.client_side.ClientSide.{ClientSide}

@@ -3,9 +3,9 @@ use Rattle.std.proofs.Common.{◌≡◌, ◌<◌, ◌≤◌, ◌+◌, ℕ, zero,
 use Rattle.std.specs.Prelude.{◌==◌, ◌||◌, if◌then◌else◌, nat_lt, not}
 use Rattle.std.proofs.lemmas.Bool.{and_parts, true≢false}
 use Rattle.std.proofs.lemmas.Bool.Decides.{nat_tests}
-use Rattle.dri_meaning.specs.Privates.{loses, placed_after, run_of}
-use Rattle.dri_meaning.proofs.Textures.{in_bounds}
-use Rattle.dri_meaning.proofs.TextureUses.{freed_age, freed_low, room_at}
+use Rattle.dri_core.specs.Privates.{loses, placed_after, run_of}
+use Rattle.dri_core.proofs.Textures.{in_bounds}
+use Rattle.dri_core.proofs.TextureUses.{freed_age, freed_low, room_at}
 use Rattle.dri_model.specs.Counting.{any_from}
 use Rattle.dri_model.specs.Heaps.{Heap, Run, age_freed, allocated, classes_for, fits, freed_for, in_run, is_newer, is_place_for, is_room, lose, lowest_place}
 use Rattle.dri_texheap.specs.Placements.{is_bound_lost, is_lost, placed_of}

@@ -21,7 +21,7 @@ use Rattle.dri_base.specs.States.{with_setting}
 use Rattle.dri_base.specs.Scenes.{script_in, script_of, textures_of}
 use Rattle.dri_base.specs.Texels.{texture_in}
 use Rattle.dri_base.proofs.RangeLemmas.{textures_in_range}
-use Rattle.dri_meaning.specs.Privates.{texture_used}
+use Rattle.dri_core.specs.Privates.{texture_used}
 use Rattle.dri_model.specs.Heaps.{Run}
 use Rattle.dri_driver.specs.Clients.{ClientState, next_command, script_of_client}
 use Rattle.dri_driver.specs.Kept.{IsKept}

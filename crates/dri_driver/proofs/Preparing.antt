@@ -10,18 +10,18 @@ use Rattle.dri_base.specs.declared.journal.Event.TheVariants as Event_is
 use Rattle.dri_base.specs.declared.scene.Scene.{Scene}
 use Rattle.dri_base.specs.declared.state.State.{State}
 use Rattle.dri_base.specs.declared.texture.BoundTexture.{BoundTexture}
-use Rattle.dri_meaning.specs.Effects.{run_at}
-use Rattle.dri_meaning.specs.EntryTable.{LegalEntry}
-use Rattle.dri_meaning.specs.Phases.{In}
-use Rattle.dri_meaning.specs.Runs.{HoldRun, Intact, IsCurrent}
-use Rattle.dri_meaning.proofs.Laws.{LegalEntries-append}
-use Rattle.dri_meaning.proofs.RunLaws.{acting_current, intact}
+use Rattle.dri_core.specs.Effects.{run_at}
+use Rattle.dri_core.specs.EntryTable.{LegalEntry}
+use Rattle.dri_core.specs.Phases.{In}
+use Rattle.dri_core.specs.Runs.{HoldRun, Intact, IsCurrent}
+use Rattle.dri_core.proofs.Laws.{LegalEntries-append}
+use Rattle.dri_core.proofs.RunLaws.{acting_current, intact}
 use Rattle.dri_model.specs.Heaps.{Heap, Run, allocated, classes_for, freed_for, in_run, is_newer, lose, lowest_place}
 use Rattle.dri_texheap.specs.Placements.{placed_of}
-use Rattle.dri_meaning.specs.Privates.{Private, bound_texture, is_ready, is_ready_for, is_triangle, own_registers, placed_after, textured_with}
-use Rattle.dri_meaning.specs.Turns.{emit_turn, triangle_turn}
-use Rattle.dri_meaning.specs.Worlds.{World, opening}
-use Rattle.dri_meaning.proofs.EventTurns.{at_triangle, ready_turn}
+use Rattle.dri_core.specs.Privates.{Private, bound_texture, is_ready, is_ready_for, is_triangle, own_registers, placed_after, textured_with}
+use Rattle.dri_core.specs.Turns.{emit_turn, triangle_turn}
+use Rattle.dri_core.specs.Worlds.{World, opening}
+use Rattle.dri_core.proofs.EventTurns.{at_triangle, ready_turn}
 use Rattle.dri_model.specs.Groups.{Groups, bits, is_empty, no_groups, with_bound}
 use Rattle.dri_model.specs.Words.{emitted_words, register_words}
 use Rattle.dri_shared.specs.Sides.{Makes, MayMake, client_at, part_at, value_at, world_at}

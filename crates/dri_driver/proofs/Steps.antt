@@ -12,12 +12,12 @@ use Rattle.dri_base.specs.declared.shape.Triangle.{Triangle}
 use Rattle.dri_base.specs.declared.state.State.{State}
 use Rattle.dri_base.specs.States.{state_after}
 use Rattle.dri_base.specs.Scenes.{command_at}
-use Rattle.dri_meaning.specs.Effects.{heap_after, is_last, local_after}
-use Rattle.dri_meaning.specs.Phases.{In, phase_after}
-use Rattle.dri_meaning.specs.Privates.{Private, state_by, used_run, is_ready, textured_with}
-use Rattle.dri_meaning.specs.Turns.{acting_turn}
-use Rattle.dri_meaning.specs.Worlds.{World}
-use Rattle.dri_meaning.proofs.EventTurns.{ready_turn}
+use Rattle.dri_core.specs.Effects.{heap_after, is_last, local_after}
+use Rattle.dri_core.specs.Phases.{In, phase_after}
+use Rattle.dri_core.specs.Privates.{Private, state_by, used_run, is_ready, textured_with}
+use Rattle.dri_core.specs.Turns.{acting_turn}
+use Rattle.dri_core.specs.Worlds.{World}
+use Rattle.dri_core.proofs.EventTurns.{ready_turn}
 use Rattle.dri_model.specs.Groups.{Groups, blend_word, depth_word, dirtied, flag_word, is_empty, mode_word, same_number, same_rect, shade_word, wrap_word}
 use Rattle.dri_model.specs.Heaps.{Run}
 use Rattle.dri_shared.specs.Commands.{next_run}

@@ -3,11 +3,11 @@ use Rattle.std.proofs.Common.{◌≡◌, ◌∙◌, List, [], ap, refl, sym}
 use Rattle.dri_base.specs.declared.journal.Entry.{Entry}
 use Rattle.dri_base.specs.declared.journal.Entry.TheVariants.{Gone, Info}
 use Rattle.dri_base.specs.Scenes.{commands_of, window_of}
-use Rattle.dri_meaning.specs.EntryTable.{after_entry}
-use Rattle.dri_meaning.specs.Phases.{Dead, Out}
-use Rattle.dri_meaning.specs.Privates.{opening_part}
-use Rattle.dri_meaning.specs.Runs.{after}
-use Rattle.dri_meaning.specs.Worlds.{World, clips_in}
+use Rattle.dri_core.specs.EntryTable.{after_entry}
+use Rattle.dri_core.specs.Phases.{Dead, Out}
+use Rattle.dri_core.specs.Privates.{opening_part}
+use Rattle.dri_core.specs.Runs.{after}
+use Rattle.dri_core.specs.Worlds.{World, clips_in}
 use Rattle.dri_model.specs.Stacks.{origin}
 use Rattle.dri_shared.specs.Copies.{IsToldOf, corner}
 use Rattle.dri_shared.specs.States.{Added, SharedState, world_of}

@@ -1,7 +1,7 @@
 -- The phases as the client keeps them.
 use Rattle.dri_driver.specs.declared.phase.Activity.{Activity}
 use Rattle.dri_driver.specs.declared.phase.Activity.TheVariants as Activity_is
-use Rattle.dri_meaning.specs.Phases.{Phase, Out, Old, In, Over, Ask, Asking, Ended, Dead}
+use Rattle.dri_core.specs.Phases.{Phase, Out, Old, In, Over, Ask, Asking, Ended, Dead}
 
 -- the phase that it stands for
 abbrev pub phase_in : Activity → Phase

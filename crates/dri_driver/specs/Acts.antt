@@ -5,10 +5,10 @@ use Rattle.dri_base.specs.declared.journal.Entry.{Entry}
 use Rattle.dri_base.specs.declared.journal.Entry.TheVariants as Entry_is
 use Rattle.dri_base.specs.declared.journal.Event.{Event}
 use Rattle.dri_base.specs.declared.journal.Event.TheVariants as Event_is
-use Rattle.dri_meaning.specs.Phases.{In, Over}
-use Rattle.dri_meaning.specs.Runs.{client_of}
-use Rattle.dri_meaning.specs.Turns.{acting_turn}
-use Rattle.dri_meaning.specs.Worlds.{World}
+use Rattle.dri_core.specs.Phases.{In, Over}
+use Rattle.dri_core.specs.Runs.{client_of}
+use Rattle.dri_core.specs.Turns.{acting_turn}
+use Rattle.dri_core.specs.Worlds.{World}
 use Rattle.dri_shared.specs.Sides.{world_at}
 use Rattle.dri_shared.specs.declared.client_side.ClientSide.{ClientSide}
 use Rattle.dri_driver.specs.Clients.{ClientState, next_command}

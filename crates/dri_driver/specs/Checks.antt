@@ -1,7 +1,7 @@
 -- What the client finds once the kernel let it in.
 use Rattle.std.specs.Prelude.{Bool, ℕ}
-use Rattle.dri_meaning.specs.Phases.{In, Old, Phase}
-use Rattle.dri_meaning.specs.Privates.{Private, is_bound_lost}
+use Rattle.dri_core.specs.Phases.{In, Old, Phase}
+use Rattle.dri_core.specs.Privates.{Private, is_bound_lost}
 use Rattle.dri_model.specs.Groups.{all_where, with_bound}
 use Rattle.dri_model.specs.Heaps.{Heap, is_newer, lose}
 use Rattle.dri_driver.specs.declared.answers.Checked.{Checked}

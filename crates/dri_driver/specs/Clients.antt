@@ -5,8 +5,8 @@ use Rattle.dri_base.specs.declared.shape.Rect.{Rect}
 use Rattle.dri_base.specs.declared.state.State.{State}
 use Rattle.dri_base.specs.declared.scene.Scene.{Scene}
 use Rattle.dri_base.specs.Scenes.{command_at, commands_of}
-use Rattle.dri_meaning.specs.Phases.{Phase}
-use Rattle.dri_meaning.specs.Privates.{Private}
+use Rattle.dri_core.specs.Phases.{Phase}
+use Rattle.dri_core.specs.Privates.{Private}
 use Rattle.dri_model.specs.Groups.{Groups}
 use Rattle.dri_model.specs.Heaps.{Run}
 use Rattle.dri_rect.specs.Pixels.{inside}

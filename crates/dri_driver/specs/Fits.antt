@@ -2,7 +2,7 @@
 use Rattle.std.specs.Prelude.{◌≡◌, ◌≢◌}
 use Rattle.dri_base.specs.Scenes.{window_of}
 use Rattle.dri_base.specs.declared.journal.Entry.{Entry}
-use Rattle.dri_meaning.specs.Worlds.{World}
+use Rattle.dri_core.specs.Worlds.{World}
 use Rattle.dri_shared.specs.Sides.{Makes, value_at}
 use Rattle.dri_shared.specs.States.{SharedState, world_of}
 use Rattle.dri_shared.specs.declared.client_side.ClientSide.{ClientSide}

@@ -4,7 +4,7 @@ use Rattle.std.specs.Arc.{arc_value}
 use Rattle.dri_base.specs.Ranges.{InRange}
 use Rattle.dri_base.specs.Scenes.{script_of, textures_of}
 use Rattle.dri_base.specs.Texels.{texture_in}
-use Rattle.dri_meaning.specs.Phases.{In, Old, Out, Ask, Asking, Over, Ended, Dead, Phase}
+use Rattle.dri_core.specs.Phases.{In, Old, Out, Ask, Asking, Over, Ended, Dead, Phase}
 use Rattle.dri_shared.specs.Copies.{IsCopyOf, corner}
 use Rattle.dri_texheap.specs.Placements.{AreInside}
 use Rattle.dri_driver.specs.Activities.{phase_in}

@@ -2,8 +2,8 @@
 use Rattle.std.specs.Prelude.{List, [], drop, if◌then◌else◌, pred, suc, ℕ, ◌*◌, ◌+◌, ◌∷◌}
 use Rattle.dri_base.specs.declared.command.Command.{Command}
 use Rattle.dri_base.specs.declared.command.Command.TheVariants.{Clear, Die, Set, Swap, Triangle, Yield}
-use Rattle.dri_meaning.specs.Phases.{Phase, Out, Old, In, Over, Ask, Asking, Ended, Dead}
-use Rattle.dri_meaning.specs.Privates.{Private, is_ready}
+use Rattle.dri_core.specs.Phases.{Phase, Out, Old, In, Over, Ask, Asking, Ended, Dead}
+use Rattle.dri_core.specs.Privates.{Private, is_ready}
 use Rattle.dri_model.specs.Groups.{is_empty}
 use Rattle.dri_driver.specs.Clients.{ClientState, part_of, script_of_client}
 

@@ -2,7 +2,7 @@
 use Rattle.std.specs.Prelude.{◌≡◌, ℕ, List, length, Some, false, slice_get}
 use Rattle.dri_base.specs.Scenes.{commands_of}
 use Rattle.dri_base.specs.declared.scene.Scene.{Scene}
-use Rattle.dri_meaning.specs.Privates.{opening_part}
+use Rattle.dri_core.specs.Privates.{opening_part}
 use Rattle.dri_driver.specs.Clients.{ClientState, part_of}
 
 -- a client of the scene at the opening

@@ -2,7 +2,7 @@
 use Rattle.std.specs.Prelude.{Bool, true, false}
 use Rattle.dri_driver.specs.declared.phase.Phase.{Phase}
 use Rattle.dri_driver.specs.declared.phase.Phase.TheVariants.{Out, Old, In, Over, Ask, Asking, Dying, Ended, Dead}
-use Rattle.dri_meaning.specs.Phases as Kept
+use Rattle.dri_core.specs.Phases as Kept
 
 -- who is dying shows that, whatever it was doing; else its phase
 abbrev pub shown_phase : Bool → Kept.Phase → Phase

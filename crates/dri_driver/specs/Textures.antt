@@ -3,7 +3,7 @@ use Rattle.std.specs.Prelude.{Bool, List, Option, None, Some, if◌then◌else�
 use Rattle.dri_base.specs.declared.texture.TexShape.{TexShape}
 use Rattle.dri_base.specs.declared.texture.Texture.{Texture}
 use Rattle.dri_base.specs.Texels.{texture_in}
-use Rattle.dri_meaning.specs.Privates.{Private, textured_with}
+use Rattle.dri_core.specs.Privates.{Private, textured_with}
 use Rattle.dri_model.specs.Heaps.{Heap, Run}
 
 -- a texture's shape, where there is a texture

@@ -2,7 +2,7 @@
 //! is dying, and keeps what it was doing, since its part of the world stays as it was until its death.
 
 ghost use Rattle.std.specs.Prelude.{◌≡◌, Some, if◌then◌else◌};
-ghost use Rattle.dri_meaning.specs.Phases.{first_phase, phase_after, left_from, Old, In};
+ghost use Rattle.dri_core.specs.Phases.{first_phase, phase_after, left_from, Old, In};
 ghost use Rattle.dri_driver.specs.Activities.{phase_in};
 ghost use Rattle.dri_driver.specs.Shown.{shown_phase};
 

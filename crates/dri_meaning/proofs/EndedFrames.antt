@@ -13,14 +13,14 @@ use Rattle.dri_base.specs.declared.journal.Entry.TheVariants.{Light, Kernel, Sta
 use Rattle.dri_base.specs.declared.scene.Scene.{Scene}
 use Rattle.dri_base.specs.Scenes.{commands_of, command_at}
 use Rattle.dri_model.proofs.Touches.{how_many_below}
-use Rattle.dri_meaning.specs.Effects.{run_by, placed_by, taken_in}
-use Rattle.dri_meaning.specs.EntryTable.{LegalEntry, after_entry}
+use Rattle.dri_core.specs.Effects.{run_by, placed_by, taken_in}
+use Rattle.dri_core.specs.EntryTable.{LegalEntry, after_entry}
 use Rattle.dri_meaning.specs.Reports.{Standing, NoClear, Stood, Cut, Tally, counts_frame, counts_stood, tally_after, tally_from}
-use Rattle.dri_meaning.specs.Runs.{after_entries, LegalEntries}
-use Rattle.dri_meaning.specs.Solo.{frame, is_swap, swaps_before, IsFrame}
-use Rattle.dri_meaning.specs.Worlds.{World}
-use Rattle.dri_meaning.proofs.FrameNumbers.{frame_is, one_more}
-use Rattle.dri_meaning.proofs.Parts.{put_keeps, put_here}
+use Rattle.dri_core.specs.Runs.{after_entries, LegalEntries}
+use Rattle.dri_core.specs.Solo.{frame, is_swap, swaps_before, IsFrame}
+use Rattle.dri_core.specs.Worlds.{World}
+use Rattle.dri_core.proofs.FrameNumbers.{frame_is, one_more}
+use Rattle.dri_core.proofs.Parts.{put_keeps, put_here}
 use Rattle.dri_meaning.proofs.OpenFrames.{IsOpen, OpenIn, Tracked, tracked_on}
 
 -- one item where the count is 1

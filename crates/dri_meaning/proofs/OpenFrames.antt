@@ -9,13 +9,13 @@ use Rattle.dri_base.specs.declared.journal.Entry.{Entry}
 use Rattle.dri_base.specs.declared.journal.Entry.TheVariants.{Light, Kernel, Stale, Emit, Place, Leave, Info, Change, Run, Gone}
 use Rattle.dri_base.specs.declared.scene.Scene.{Scene}
 use Rattle.dri_base.specs.Scenes.{commands_of, command_at}
-use Rattle.dri_meaning.specs.Effects.{run_by, placed_by, taken_in}
-use Rattle.dri_meaning.specs.EntryTable.{LegalEntry, after_entry}
-use Rattle.dri_meaning.specs.Privates.{Private}
+use Rattle.dri_core.specs.Effects.{run_by, placed_by, taken_in}
+use Rattle.dri_core.specs.EntryTable.{LegalEntry, after_entry}
+use Rattle.dri_core.specs.Privates.{Private}
 use Rattle.dri_meaning.specs.Reports.{Standing, NoClear, Stood, Cut, Tally, standing_after, cut_by, tally_after, tally}
-use Rattle.dri_meaning.specs.Solo.{is_clear, is_swap}
-use Rattle.dri_meaning.specs.Worlds.{World, opening, put}
-use Rattle.dri_meaning.proofs.Parts.{put_keeps, put_there}
+use Rattle.dri_core.specs.Solo.{is_clear, is_swap}
+use Rattle.dri_core.specs.Worlds.{World, opening, put}
+use Rattle.dri_core.proofs.Parts.{put_keeps, put_there}
 
 -- a client's frame is open: it has a clear before this place, with neither clear nor swap since
 pub record IsOpen (cs : List Command) (first place : ℕ) : Type 0 where

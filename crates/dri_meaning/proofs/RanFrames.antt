@@ -11,14 +11,14 @@ use Rattle.dri_base.specs.declared.journal.Entry.{Entry}
 use Rattle.dri_base.specs.declared.journal.Entry.TheVariants.{Light, Kernel, Stale, Emit, Place, Leave, Info, Change, Run, Gone}
 use Rattle.dri_base.specs.declared.scene.Scene.{Scene}
 use Rattle.dri_base.specs.Scenes.{commands_of, command_at}
-use Rattle.dri_meaning.specs.EntryTable.{LegalEntry, after_entry}
-use Rattle.dri_meaning.specs.Frames.{FrameRan, Counts}
+use Rattle.dri_core.specs.EntryTable.{LegalEntry, after_entry}
+use Rattle.dri_core.specs.Frames.{FrameRan, Counts}
 use Rattle.dri_meaning.specs.Reports.{Standing, NoClear, Stood, Cut, Tally, counts_frame, tally_after, tally}
-use Rattle.dri_meaning.specs.Runs.{LegalEntries, after, HoldRun}
-use Rattle.dri_meaning.specs.Solo.{is_swap, swaps_before, IsFrame}
-use Rattle.dri_meaning.specs.Worlds.{World, opening}
-use Rattle.dri_meaning.proofs.FrameNumbers.{is_frame}
-use Rattle.dri_meaning.proofs.Laws.{LegalEntries-append}
+use Rattle.dri_core.specs.Runs.{LegalEntries, after, HoldRun}
+use Rattle.dri_core.specs.Solo.{is_swap, swaps_before, IsFrame}
+use Rattle.dri_core.specs.Worlds.{World, opening}
+use Rattle.dri_core.proofs.FrameNumbers.{is_frame}
+use Rattle.dri_core.proofs.Laws.{LegalEntries-append}
 use Rattle.dri_meaning.proofs.OpenFrames.{IsOpen, OpenIn, Tracked, tracked_opened, tracked_on}
 use Rattle.dri_meaning.proofs.EndedFrames.{pick, ended, ends, frame_begun, frame_counting, frames_length, counted_swap, apart, counted_there, tracked_along, open_frame, frame_open, open_here}
 

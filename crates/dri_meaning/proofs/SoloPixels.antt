@@ -15,8 +15,8 @@ use Rattle.dri_base.specs.declared.state.State.{State}
 use Rattle.dri_base.specs.States.{state_after, state_at}
 use Rattle.dri_base.specs.Texels.{own_image}
 use Rattle.dri_meaning.specs.Scripts.{HasTexels, ScriptInRange}
-use Rattle.dri_meaning.specs.Solo.{blank, drawn_at, drawn_by, frame, solo, solo_between, solo_frame}
-use Rattle.dri_meaning.proofs.Invariant.{state_on}
+use Rattle.dri_core.specs.Solo.{blank, drawn_at, drawn_by, frame, solo, solo_between, solo_frame}
+use Rattle.dri_core.proofs.Invariant.{state_on}
 
 -- the pair after the first n commands from the clear on
 abbrev pub solo_before : ClientScript → ℕ → ℕ → ℤ → ℤ → Pixel

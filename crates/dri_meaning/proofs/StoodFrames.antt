@@ -12,16 +12,16 @@ use Rattle.dri_base.specs.declared.journal.Entry.{Entry}
 use Rattle.dri_base.specs.declared.journal.Entry.TheVariants.{Light, Kernel, Stale, Emit, Place, Leave, Info, Change, Run, Gone}
 use Rattle.dri_base.specs.declared.scene.Scene.{Scene}
 use Rattle.dri_base.specs.Scenes.{commands_of, window_of, command_at}
-use Rattle.dri_meaning.specs.Effects.{run_by}
-use Rattle.dri_meaning.specs.EntryTable.{LegalEntry, after_entry}
-use Rattle.dri_meaning.specs.Frames.{Stands, FrameStood, Counts, keeps}
+use Rattle.dri_core.specs.Effects.{run_by}
+use Rattle.dri_core.specs.EntryTable.{LegalEntry, after_entry}
+use Rattle.dri_core.specs.Frames.{Stands, FrameStood, Counts, keeps}
 use Rattle.dri_meaning.specs.Reports.{Standing, NoClear, Stood, Cut, Tally, standing_after, cut_by, counts_stood, tally_after, tally_from, tally}
-use Rattle.dri_meaning.specs.Runs.{after_entries, LegalEntries, after, HoldRun}
-use Rattle.dri_meaning.specs.Solo.{is_clear, is_swap, swaps_before, IsFrame}
-use Rattle.dri_meaning.specs.Worlds.{World, opening}
-use Rattle.dri_meaning.proofs.FrameNumbers.{is_frame}
-use Rattle.dri_meaning.proofs.Parts.{put_here}
-use Rattle.dri_meaning.proofs.Laws.{after_entries-append, LegalEntries-append}
+use Rattle.dri_core.specs.Runs.{after_entries, LegalEntries, after, HoldRun}
+use Rattle.dri_core.specs.Solo.{is_clear, is_swap, swaps_before, IsFrame}
+use Rattle.dri_core.specs.Worlds.{World, opening}
+use Rattle.dri_core.proofs.FrameNumbers.{is_frame}
+use Rattle.dri_core.proofs.Parts.{put_here}
+use Rattle.dri_core.proofs.Laws.{after_entries-append, LegalEntries-append}
 use Rattle.dri_meaning.proofs.OpenFrames.{IsOpen, Tracked, tracked_opened, tracked_on}
 use Rattle.dri_meaning.proofs.EndedFrames.{pick, ended, ends, stood_counting, stood_length, place_on, places_on, counted_swap, apart, counted_there, tally_append, open_frame}
 use Rattle.dri_meaning.proofs.StoodSince.{History, history_on}

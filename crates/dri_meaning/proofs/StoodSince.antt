@@ -10,16 +10,16 @@ use Rattle.dri_base.specs.declared.journal.Entry.{Entry}
 use Rattle.dri_base.specs.declared.journal.Entry.TheVariants.{Light, Kernel, Stale, Emit, Place, Leave, Info, Change, Run, Gone}
 use Rattle.dri_base.specs.declared.scene.Scene.{Scene}
 use Rattle.dri_base.specs.Scenes.{commands_of, window_of, command_at}
-use Rattle.dri_meaning.specs.Effects.{run_by, placed_by, taken_in}
-use Rattle.dri_meaning.specs.EntryTable.{LegalEntry, after_entry}
-use Rattle.dri_meaning.specs.Frames.{Stands, keeps}
-use Rattle.dri_meaning.specs.Privates.{Private}
+use Rattle.dri_core.specs.Effects.{run_by, placed_by, taken_in}
+use Rattle.dri_core.specs.EntryTable.{LegalEntry, after_entry}
+use Rattle.dri_core.specs.Frames.{Stands, keeps}
+use Rattle.dri_core.specs.Privates.{Private}
 use Rattle.dri_meaning.specs.Reports.{Standing, NoClear, Stood, Cut, Tally, standing_after, cut_by, tally_after}
-use Rattle.dri_meaning.specs.Runs.{after_entries, after}
-use Rattle.dri_meaning.specs.Solo.{is_clear, is_swap}
-use Rattle.dri_meaning.specs.Worlds.{World, opening, put}
-use Rattle.dri_meaning.proofs.Parts.{put_keeps, put_here, put_there}
-use Rattle.dri_meaning.proofs.Laws.{after_entries-append}
+use Rattle.dri_core.specs.Runs.{after_entries, after}
+use Rattle.dri_core.specs.Solo.{is_clear, is_swap}
+use Rattle.dri_core.specs.Worlds.{World, opening, put}
+use Rattle.dri_core.proofs.Parts.{put_keeps, put_here, put_there}
+use Rattle.dri_core.proofs.Laws.{after_entries-append}
 use Rattle.dri_meaning.proofs.OpenFrames.{IsOpen, open_on, Tracked}
 
 -- an entry that leaves the stamp keeps what stands

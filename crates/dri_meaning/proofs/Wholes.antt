@@ -10,11 +10,11 @@ use Rattle.dri_base.specs.declared.scene.ClientScript.{ClientScript}
 use Rattle.dri_base.specs.declared.scene.Scene.{Scene}
 use Rattle.dri_base.specs.Scenes.{script_in, commands_of}
 use Rattle.dri_base.proofs.RangeLemmas.{IsWellFormed}
-use Rattle.dri_meaning.specs.Phases.{is_done}
+use Rattle.dri_core.specs.Phases.{is_done}
 use Rattle.dri_meaning.specs.Reports.{is_whole}
-use Rattle.dri_meaning.specs.Runs.{after, HoldRun, Whole}
-use Rattle.dri_meaning.specs.Worlds.{World}
-use Rattle.dri_meaning.proofs.Lively.{Lively, lively_after}
+use Rattle.dri_core.specs.Runs.{after, HoldRun, Whole}
+use Rattle.dri_core.specs.Worlds.{World}
+use Rattle.dri_core.proofs.Lively.{Lively, lively_after}
 
 -- what holds of each client in the list holds of each that has commands
 done_in : (w : World) (ps : List ClientScript) (c : ℕ) → list_all (λ p. is_done (w.client p.number).phase) ps ≡ true → ((script_in ps c).commands ≡ [] → ⊥) → is_done (w.client c).phase ≡ true

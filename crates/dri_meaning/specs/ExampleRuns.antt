@@ -6,11 +6,11 @@ use Rattle.dri_base.specs.declared.journal.Entry.TheVariants.{Light, Kernel, Sta
 use Rattle.dri_base.specs.declared.journal.Entry.{Entry}
 use Rattle.dri_base.specs.declared.journal.Event.{Event}
 use Rattle.dri_base.specs.declared.scene.Scene.{Scene}
-use Rattle.dri_meaning.specs.CoreRuns.{after_events}
-use Rattle.dri_meaning.specs.Cores.{opening_core, word_number}
-use Rattle.dri_meaning.specs.ExampleScenes.{rgb}
+use Rattle.dri_core.specs.CoreRuns.{after_events}
+use Rattle.dri_core.specs.Cores.{opening_core, word_number}
+use Rattle.dri_core.specs.ExampleParts.{rgb}
 use Rattle.dri_meaning.specs.Reports.{tally, is_whole}
-use Rattle.dri_meaning.specs.Runs.{after}
+use Rattle.dri_core.specs.Runs.{after}
 
 -- the rows of front after a journal
 abbrev pub picture : Scene → List Entry → List (List Rgb)

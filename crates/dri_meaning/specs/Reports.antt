@@ -5,12 +5,12 @@ use Rattle.dri_base.specs.declared.command.Command.{Command}
 use Rattle.dri_base.specs.declared.command.Command.TheVariants.{Clear, Die, Set, Swap, Triangle, Yield}
 use Rattle.dri_base.specs.declared.journal.Entry.{Entry}
 use Rattle.dri_base.specs.declared.scene.Scene.{Scene}
-use Rattle.dri_meaning.specs.EntryTable.{after_entry}
-use Rattle.dri_meaning.specs.Frames.{keeps}
-use Rattle.dri_meaning.specs.Phases.{is_done}
-use Rattle.dri_meaning.specs.Runs.{after}
+use Rattle.dri_core.specs.EntryTable.{after_entry}
+use Rattle.dri_core.specs.Frames.{keeps}
+use Rattle.dri_core.specs.Phases.{is_done}
+use Rattle.dri_core.specs.Runs.{after}
 use Rattle.dri_base.specs.Scenes.{command_at, window_of}
-use Rattle.dri_meaning.specs.Worlds.{World, opening}
+use Rattle.dri_core.specs.Worlds.{World, opening}
 use Rattle.dri_base.specs.declared.journal.Entry.TheVariants as Entry_is
 
 -- where a client's frame stands: it has no clear yet, or its last clear has stood, or a new stamp came after it

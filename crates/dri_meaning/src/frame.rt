@@ -3,7 +3,7 @@
 
 ghost use Rattle.std.specs.Prelude.{◌≡◌, ◌≤◌, ◌<◌, length, IfSome};
 ghost use Rattle.std.specs.Option.{option_map};
-ghost use Rattle.dri_meaning.specs.Solo.{frame, with_swap};
+ghost use Rattle.dri_core.specs.Solo.{frame, with_swap};
 
 use dri_base::Command;
 

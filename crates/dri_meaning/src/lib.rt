@@ -1,26 +1,24 @@
-//! What a run of the core means: frames drawn alone, worlds, the tables of entries and events, and runs. These stand in
-//! this crate's specifications. Most functions here do nothing; their contracts are the laws that hold of every run.
-//! Two draw a frame alone, pixel by pixel, as the definition does.
+//! What a run of the core means to whoever looks at it: frames drawn alone, pixel by pixel, as their definition does;
+//! what the check of a journal counts; scenes that were worked by hand. The core itself and its laws are `dri_core`'s,
+//! and are offered here too.
 #![tactic(auto)]
 
 mod bound;
-mod core_runs;
 mod frame;
-mod hold_runs;
-mod later;
 mod picture;
 mod settings;
 mod solo;
+mod tallies;
 mod triangle;
 mod worked;
 
-pub use core_runs::{core, rounds_end, turns};
-pub use hold_runs::{
-    bounded, central, confined, counted, decided, foreign, frames, own, solo_left,
+pub use dri_core::{
+    bounded, central, confined, core, decided, foreign, frames, lasting, own, plain_in_range,
+    rounds_end, solo_left, turns, whole_by_parts,
 };
-pub use later::{lasting, plain_in_range, whole_by_parts};
 pub use picture::{Picture, Pixels, SoloFault, solo_picture};
 pub use solo::solo_pixel;
+pub use tallies::counted;
 pub use worked::{
     a_scissor, a_triangle, changed_beside, changes_one_by_one, columns, covered_and_uncovered,
     covered_in_part, covered_whole, death, death_of_two_windows, depths, killed_before,

@@ -5,7 +5,7 @@ ghost use Rattle.std.specs.Prelude.{◌≡◌, ◌≤◌, ◌<◌, ◌-◌, ◌�
 ghost use Rattle.dri_base.specs.Planes.{plane};
 ghost use Rattle.dri_base.specs.Ranges.{IsSide};
 ghost use Rattle.dri_meaning.specs.Scripts.{ScriptInRange};
-ghost use Rattle.dri_meaning.specs.Solo.{solo, solo_frame};
+ghost use Rattle.dri_core.specs.Solo.{solo, solo_frame};
 ghost use Rattle.dri_meaning.specs.declared.picture.SoloFault.TheVariants.{NoFrame};
 
 use crate::frame::{Frame, frame_of};

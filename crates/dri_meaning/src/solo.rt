@@ -6,7 +6,7 @@ ghost use Rattle.dri_base.specs.Fragments.{fragment, rules_of};
 ghost use Rattle.dri_base.specs.Ranges.{CommandInRange, TriangleInRange, texture_numbers};
 ghost use Rattle.dri_base.specs.Texels.{own_image};
 ghost use Rattle.dri_meaning.specs.Scripts.{IsWindowPlace, ScriptInRange};
-ghost use Rattle.dri_meaning.specs.Solo.{blank, drawn_by, solo, solo_frame};
+ghost use Rattle.dri_core.specs.Solo.{blank, drawn_by, solo, solo_frame};
 
 use crate::bound::texture_bound;
 use crate::frame::{Frame, frame_of};

@@ -4,15 +4,15 @@
 ghost use Rattle.std.specs.Prelude.{◌≡◌, [], ◌∷◌, take, true, false, Some, None, pos};
 ghost use Rattle.std.specs.Prelude.{◌++◌};
 ghost use Rattle.dri_base.specs.declared.journal.Entry.TheVariants.{Gone, Kernel, Leave, Stale, Info, Change, Run, Light};
-ghost use Rattle.dri_meaning.specs.Decide.{is_hold_run};
-ghost use Rattle.dri_meaning.specs.Cores.{journal_of};
+ghost use Rattle.dri_core.specs.Decide.{is_hold_run};
+ghost use Rattle.dri_core.specs.Cores.{journal_of};
 ghost use Rattle.dri_meaning.specs.ExampleScenes.{one_triangle, two_frames, under_another, killed_first, dies, covered, beside, waiting_one, killed, one_region, cut_out, blended_twice, partly_covered, moved_about, two_windows, shown_twice, taken_again, stopped_in_the_queue, in_depth, by_default, along_the_row, two_regions};
 ghost use Rattle.dri_meaning.specs.ExampleRuns.{picture, summary, word_after_all, red, green, blue, grey, one_triangle_journal, two_frames_journal, dies_journal, covered_journal, beside_journal, waiting_one_journal, killed_journal, one_region_journal, cut_out_journal, blended_twice_journal, partly_covered_journal, six_changes, taken_again_journal, stopped_journal, first_hold, two_regions_journal};
-ghost use Rattle.dri_meaning.specs.Runs.{after, HoldRun};
+ghost use Rattle.dri_core.specs.Runs.{after, HoldRun};
 ghost use Rattle.dri_base.specs.Ranges.{InRange};
 ghost use Rattle.dri_base.specs.Scenes.{script_of};
-ghost use Rattle.dri_meaning.specs.Solo.{solo_frame};
-ghost use Rattle.dri_meaning.specs.Turns.{turns_and_rounds};
+ghost use Rattle.dri_core.specs.Solo.{solo_frame};
+ghost use Rattle.dri_core.specs.Turns.{turns_and_rounds};
 
 /// A triangle of six pixels, on a window of the whole screen.
 pub fn a_triangle()

@@ -1,9 +1,9 @@
 -- A schedule's items, and then rounds.
 use Rattle.std.proofs.Common.{◌≡◌, [], ◌++◌, true, sym, ap, ◌∙◌, subst}
-use Rattle.dri_meaning.specs.Cores.{opening_core}
-use Rattle.dri_meaning.specs.CoreRuns.{after_events}
-use Rattle.dri_meaning.specs.Turns.{IsTurns, all_pass, played, round, rounds}
-use Rattle.dri_meaning.proofs.Rounds.{played_append}
+use Rattle.dri_core.specs.Cores.{opening_core}
+use Rattle.dri_core.specs.CoreRuns.{after_events}
+use Rattle.dri_core.specs.Turns.{IsTurns, all_pass, played, round, rounds}
+use Rattle.dri_core.proofs.Rounds.{played_append}
 use Rattle.dri_world.specs.Courses.{Course, GoesOn, IsPlayedOut, core_of}
 
 -- the schedule, from the opening on

@@ -4,7 +4,7 @@ use Rattle.dri_base.specs.declared.colour.Rgb.{Rgb}
 use Rattle.dri_base.specs.declared.journal.Entry.{Entry}
 use Rattle.dri_base.specs.declared.scene.Scene.{Scene}
 use Rattle.dri_base.specs.Planes.{plane}
-use Rattle.dri_meaning.specs.Runs.{after, plain}
+use Rattle.dri_core.specs.Runs.{after, plain}
 use Rattle.dri_shared.specs.States.{SharedState, world_of}
 use Rattle.dri_run.specs.Journals.{FitsWords, journal_text}
 use Rattle.dri_run.specs.Ppm.{ppm}

@@ -4,10 +4,10 @@ use Rattle.std.specs.declared.option.Option.{Option}
 use Rattle.dri_base.specs.declared.journal.Event.{Event}
 use Rattle.dri_base.specs.declared.scene.Scene.{Scene}
 use Rattle.dri_base.specs.Planes.{plane}
-use Rattle.dri_meaning.specs.CoreRuns.{ConfinedRun, OwnRun, SoloLeftRun, after_events, world_of}
-use Rattle.dri_meaning.specs.Cores.{journal_of, opening_core, word_number}
-use Rattle.dri_meaning.specs.Runs.{Whole}
-use Rattle.dri_meaning.specs.Turns.{IsTurns}
+use Rattle.dri_core.specs.CoreRuns.{ConfinedRun, OwnRun, SoloLeftRun, after_events, world_of}
+use Rattle.dri_core.specs.Cores.{journal_of, opening_core, word_number}
+use Rattle.dri_core.specs.Runs.{Whole}
+use Rattle.dri_core.specs.Turns.{IsTurns}
 use Rattle.dri_sarea.specs.Images.{area_bytes}
 use Rattle.dri_shared.specs.Areas.{area_of}
 use Rattle.dri_run.specs.Gains.{GainsNothing, Sunk}

@@ -3,8 +3,8 @@ use Rattle.std.specs.Prelude.{◌≡◌, ℕ, List, All}
 use Rattle.dri_base.specs.declared.journal.Entry.{Entry}
 use Rattle.dri_base.specs.declared.scene.Scene.{Scene}
 use Rattle.dri_base.specs.Planes.{plane}
-use Rattle.dri_meaning.specs.Frames.{Own, SoloLeft}
-use Rattle.dri_meaning.specs.Runs.{Confined, HoldRun, Whole, after, plain}
+use Rattle.dri_core.specs.Frames.{Own, SoloLeft}
+use Rattle.dri_core.specs.Runs.{Confined, HoldRun, Whole, after, plain}
 use Rattle.dri_run.specs.Journals.{FitsWords, journal_text}
 use Rattle.dri_run.specs.Ppm.{ppm}
 

@@ -2,13 +2,13 @@
 
 ghost use Rattle.std.specs.Prelude.{◌≡◌, IfOk};
 ghost use Rattle.dri_base.specs.Ranges.{InRange};
-ghost use Rattle.dri_meaning.specs.Runs.{plain};
+ghost use Rattle.dri_core.specs.Runs.{plain};
 ghost use Rattle.dri_run.specs.ThreadedRun.{GivesInThreads};
 
 use crate::output::screen_of;
 use crate::writing::Output;
 use dri_base::{Items, OutOfMemory, Scene};
-use dri_meaning::plain_in_range;
+use dri_core::plain_in_range;
 use dri_threads::{Gate, run_clients};
 use std::alloc::Global;
 use std::sync::{Arc, Wait};

@@ -16,8 +16,8 @@ use Rattle.dri_base.specs.declared.state.Setting.TheVariants as Setting_is
 use Rattle.dri_base.specs.declared.state.State.{State}
 use Rattle.dri_base.specs.declared.texture.Texture.{Texture}
 use Rattle.dri_base.proofs.RangeLemmas.{well_formed}
-use Rattle.dri_meaning.specs.Runs.{HoldRun, after}
-use Rattle.dri_meaning.proofs.Kept.{after_kept}
+use Rattle.dri_core.specs.Runs.{HoldRun, after}
+use Rattle.dri_core.proofs.Kept.{after_kept}
 use Rattle.dri_model.specs.Words.{IsScissorInRange}
 use Rattle.dri_shared.proofs.Clients.{script_meets}
 use Rattle.dri_shared.proofs.Rects.{item_below, item_is}

@@ -11,13 +11,13 @@ use Rattle.dri_base.specs.declared.scene.Scene.{Scene}
 use Rattle.dri_base.specs.declared.shape.Rect.{Rect}
 use Rattle.dri_base.proofs.RangeLemmas.{number_of_script, owns_window, well_formed}
 use Rattle.dri_card.specs.Contents.{Contents, HaveSides}
-use Rattle.dri_meaning.specs.Phases.{Ended, In, Phase}
-use Rattle.dri_meaning.specs.Runs.{HoldRun, IsCurrent, after}
-use Rattle.dri_meaning.specs.Worlds.{World, clips_in}
-use Rattle.dri_meaning.proofs.Bounds.{place_bounded}
-use Rattle.dri_meaning.proofs.Kept.{after_kept}
-use Rattle.dri_meaning.proofs.Lively.{lively_after, not_empty}
-use Rattle.dri_meaning.proofs.RunLaws.{acting_current}
+use Rattle.dri_core.specs.Phases.{Ended, In, Phase}
+use Rattle.dri_core.specs.Runs.{HoldRun, IsCurrent, after}
+use Rattle.dri_core.specs.Worlds.{World, clips_in}
+use Rattle.dri_core.proofs.Bounds.{place_bounded}
+use Rattle.dri_core.proofs.Kept.{after_kept}
+use Rattle.dri_core.proofs.Lively.{lively_after, not_empty}
+use Rattle.dri_core.proofs.RunLaws.{acting_current}
 use Rattle.dri_model.specs.Stacks.{is_window, top}
 use Rattle.dri_shared.specs.Copies.{IsCopyOf}
 use Rattle.dri_shared.specs.Drawing.{IsScreen, StayOn}

@@ -2,9 +2,9 @@
 use Rattle.std.proofs.Common.{◌≡◌, ◌≤◌, ◌<◌, ◌+◌, ℕ, suc, List, [], ◌∷◌, ◌++◌, take, arith, sym, ap, ◌∙◌, subst}
 use Rattle.dri_base.specs.declared.journal.Entry.{Entry}
 use Rattle.dri_base.specs.declared.scene.Scene.{Scene}
-use Rattle.dri_meaning.specs.EntryTable.{LegalEntry}
-use Rattle.dri_meaning.specs.Runs.{after}
-use Rattle.dri_meaning.specs.Worlds.{World}
+use Rattle.dri_core.specs.EntryTable.{LegalEntry}
+use Rattle.dri_core.specs.Runs.{after}
+use Rattle.dri_core.specs.Worlds.{World}
 use Rattle.dri_shared.specs.Examples.{HasMade, IsSideAfter, each_entry, one_of_each, world_after}
 use Rattle.dri_shared.specs.Sides.{Makes, MayMake, client_at, value_at, world_at}
 use Rattle.dri_shared.specs.States.{Added, SharedState, world_of}

@@ -12,15 +12,15 @@ use Rattle.dri_base.specs.declared.scene.Scene.{Scene}
 use Rattle.dri_base.specs.declared.texture.Texture.{Texture}
 use Rattle.dri_base.proofs.RangeLemmas.{region_size_above, textures_in_range, well_formed}
 use Rattle.dri_card.specs.Loading.{IsImageWithin, image_bytes}
-use Rattle.dri_meaning.specs.Effects.{after_leave, placed_by, run_at, run_by, taken_in, told}
-use Rattle.dri_meaning.specs.EntryTable.{LegalEntry, after_entry}
-use Rattle.dri_meaning.specs.Phases.{Ask, Dead, In}
-use Rattle.dri_meaning.specs.Privates.{Private, bound_at, placed_after, run_of, textured_with, used_run, bound_texture}
-use Rattle.dri_meaning.specs.Runs.{HoldRun, IsFresh, LegalEntries, after, after_entries}
-use Rattle.dri_meaning.specs.Worlds.{World, opening, put}
-use Rattle.dri_meaning.proofs.Parts.{put_keeps}
-use Rattle.dri_meaning.proofs.Sound.{sound_after}
-use Rattle.dri_meaning.proofs.Textures.{Held, kept_one, no_some, some_run}
+use Rattle.dri_core.specs.Effects.{after_leave, placed_by, run_at, run_by, taken_in, told}
+use Rattle.dri_core.specs.EntryTable.{LegalEntry, after_entry}
+use Rattle.dri_core.specs.Phases.{Ask, Dead, In}
+use Rattle.dri_core.specs.Privates.{Private, bound_at, placed_after, run_of, textured_with, used_run, bound_texture}
+use Rattle.dri_core.specs.Runs.{HoldRun, IsFresh, LegalEntries, after, after_entries}
+use Rattle.dri_core.specs.Worlds.{World, opening, put}
+use Rattle.dri_core.proofs.Parts.{put_keeps}
+use Rattle.dri_core.proofs.Sound.{sound_after}
+use Rattle.dri_core.proofs.Textures.{Held, kept_one, no_some, some_run}
 use Rattle.dri_model.specs.Groups.{no_groups}
 use Rattle.dri_model.specs.Heaps.{Heap, Run, classes_for, fits, freed_for, is_newer, is_place_for}
 use Rattle.dri_model.specs.Words.{IsBoundInRange}

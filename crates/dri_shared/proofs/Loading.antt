@@ -17,13 +17,13 @@ use Rattle.dri_base.specs.declared.texture.Texture.{Texture}
 use Rattle.dri_base.proofs.RangeLemmas.{region_size_above, region_size_within, textures_in_range, well_formed}
 use Rattle.dri_card.specs.Contents.{Contents, memory_of}
 use Rattle.dri_card.specs.Loading.{CanLoad, IsImageWithin}
-use Rattle.dri_meaning.specs.Effects.{placed_by, run_at}
-use Rattle.dri_meaning.specs.EntryTable.{after_entry}
-use Rattle.dri_meaning.specs.Phases.{In}
-use Rattle.dri_meaning.specs.Privates.{Private, bound_texture, own_registers, textured_with, texture_used}
-use Rattle.dri_meaning.specs.Runs.{HoldRun, IsClean, after}
-use Rattle.dri_meaning.specs.Worlds.{World}
-use Rattle.dri_meaning.proofs.RunLaws.{owner_clean}
+use Rattle.dri_core.specs.Effects.{placed_by, run_at}
+use Rattle.dri_core.specs.EntryTable.{after_entry}
+use Rattle.dri_core.specs.Phases.{In}
+use Rattle.dri_core.specs.Privates.{Private, bound_texture, own_registers, textured_with, texture_used}
+use Rattle.dri_core.specs.Runs.{HoldRun, IsClean, after}
+use Rattle.dri_core.specs.Worlds.{World}
+use Rattle.dri_core.proofs.RunLaws.{owner_clean}
 use Rattle.dri_model.specs.Groups.{Groups, bits, no_groups}
 use Rattle.dri_model.specs.Heaps.{Heap, allocated, is_place_for, uploaded}
 use Rattle.dri_model.specs.Words.{loaded, register_words}

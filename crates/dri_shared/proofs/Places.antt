@@ -1,10 +1,10 @@
 -- The places of the clients' next commands, as a list by client number.
 use Rattle.std.proofs.Common.{◌≡◌, ◌<◌, ℕ, List, sym, ◌∙◌, slice_index_or, slice_set, subst}
 use Rattle.std.proofs.lemmas.List.{get_or-set_same, get_or-set_other, length-set}
-use Rattle.dri_meaning.specs.Privates.{Private}
-use Rattle.dri_meaning.specs.Worlds.{put}
-use Rattle.dri_meaning.proofs.Parts.{put_keeps}
-use Rattle.dri_meaning.proofs.Textures.{put_cases}
+use Rattle.dri_core.specs.Privates.{Private}
+use Rattle.dri_core.specs.Worlds.{put}
+use Rattle.dri_core.proofs.Parts.{put_keeps}
+use Rattle.dri_core.proofs.Textures.{put_cases}
 use Rattle.dri_shared.specs.Holdings.{ArePlacesOf}
 
 -- a client's part changes, and its place stays

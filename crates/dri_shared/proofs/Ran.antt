@@ -14,11 +14,11 @@ use Rattle.dri_base.specs.declared.state.Setting.{Setting}
 use Rattle.dri_base.specs.declared.shape.Triangle.{Triangle as TriangleShape}
 use Rattle.dri_card.specs.Contents.{Contents, Holds, KeepSides, Shows, memory_of}
 use Rattle.dri_card.specs.Drawing.{OnlyDrawn, OnlyShown}
-use Rattle.dri_meaning.specs.Effects.{back_after, front_after, heap_after, only_where, run_by}
-use Rattle.dri_meaning.specs.EntryTable.{after_entry}
-use Rattle.dri_meaning.specs.Privates.{used_run}
-use Rattle.dri_meaning.specs.Solo.{drawn_by, is_swap}
-use Rattle.dri_meaning.specs.Worlds.{World}
+use Rattle.dri_core.specs.Effects.{back_after, front_after, heap_after, only_where, run_by}
+use Rattle.dri_core.specs.EntryTable.{after_entry}
+use Rattle.dri_core.specs.Privates.{used_run}
+use Rattle.dri_core.specs.Solo.{drawn_by, is_swap}
+use Rattle.dri_core.specs.Worlds.{World}
 use Rattle.dri_model.specs.Heaps.{Heap, Run as RunOf}
 use Rattle.dri_model.specs.Words.{card_image, rules_in}
 use Rattle.dri_shared.specs.Commands.{is_setting, is_yield}

@@ -12,12 +12,12 @@ use Rattle.dri_base.specs.declared.journal.Entry.TheVariants.{Light, Kernel, Sta
 use Rattle.dri_base.specs.declared.scene.Scene.{Scene}
 use Rattle.dri_base.specs.declared.scene.Window.{Window}
 use Rattle.dri_base.proofs.RangeLemmas.{well_formed}
-use Rattle.dri_meaning.specs.EntryTable.{LegalEntry, after_entry}
-use Rattle.dri_meaning.specs.Phases.{Out}
-use Rattle.dri_meaning.specs.Runs.{HoldRun, LegalEntries, after, after_entries}
-use Rattle.dri_meaning.specs.Worlds.{World, opening}
-use Rattle.dri_meaning.proofs.Lively.{Lively, lively_opened, lively_step, not_empty}
-use Rattle.dri_meaning.proofs.Sound.{Sound, sound_kept, sound_opened}
+use Rattle.dri_core.specs.EntryTable.{LegalEntry, after_entry}
+use Rattle.dri_core.specs.Phases.{Out}
+use Rattle.dri_core.specs.Runs.{HoldRun, LegalEntries, after, after_entries}
+use Rattle.dri_core.specs.Worlds.{World, opening}
+use Rattle.dri_core.proofs.Lively.{Lively, lively_opened, lively_step, not_empty}
+use Rattle.dri_core.proofs.Sound.{Sound, sound_kept, sound_opened}
 use Rattle.dri_model.specs.Stacks.{window_in}
 use Rattle.dri_model.specs.Heaps.{Heap}
 use Rattle.dri_sarea.specs.Areas.{all_entries}

@@ -3,18 +3,18 @@ use Rattle.std.proofs.Common.{◌≡◌, ℕ, ◌+◌, List, [], ◌∷◌, ◌+
 use Rattle.dri_base.specs.declared.journal.Entry.{Entry}
 use Rattle.dri_base.specs.declared.journal.Entry.TheVariants.{Light, Kernel, Stale, Leave, Info, Change, Gone}
 use Rattle.dri_base.specs.declared.scene.Scene.{Scene}
-use Rattle.dri_meaning.specs.Effects.{after_leave, taken_in, told}
-use Rattle.dri_meaning.specs.EntryTable.{LegalEntry, after_entry}
-use Rattle.dri_meaning.specs.Phases.{Ask, Dead, In}
+use Rattle.dri_core.specs.Effects.{after_leave, taken_in, told}
+use Rattle.dri_core.specs.EntryTable.{LegalEntry, after_entry}
+use Rattle.dri_core.specs.Phases.{Ask, Dead, In}
 use Rattle.dri_base.specs.declared.command.Change.{Change as ChangeOf}
 use Rattle.dri_base.specs.declared.scene.Window.{Window}
 use Rattle.dri_card.specs.Contents.{Contents, Shows, memory_of}
 use Rattle.dri_clips.specs.Boards.{Screen}
-use Rattle.dri_meaning.specs.Restacks.{counter_after, front_painted, next_stack, stamps_after}
+use Rattle.dri_core.specs.Restacks.{counter_after, front_painted, next_stack, stamps_after}
 use Rattle.dri_model.specs.Stacks.{painted, stack_after, without_owner}
-use Rattle.dri_meaning.specs.Runs.{after}
-use Rattle.dri_meaning.specs.Worlds.{World}
-use Rattle.dri_meaning.proofs.Laws.{after-push, HoldRun-push}
+use Rattle.dri_core.specs.Runs.{after}
+use Rattle.dri_core.specs.Worlds.{World}
+use Rattle.dri_core.proofs.Laws.{after-push, HoldRun-push}
 use Rattle.dri_shared.specs.Holdings.{IsBoardOf, IsCardOf, IsFaithful, IsRestackedOn, IsWorld}
 use Rattle.dri_shared.specs.declared.holdings.Holdings.{Holdings}
 use Rattle.dri_shared.proofs.Drawn.{holds_shown}

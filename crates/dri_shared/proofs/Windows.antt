@@ -12,10 +12,10 @@ use Rattle.dri_base.specs.declared.journal.Entry.{Entry}
 use Rattle.dri_base.specs.declared.journal.Entry.TheVariants as Entry_is
 use Rattle.dri_base.specs.declared.scene.Scene.{Scene}
 use Rattle.dri_base.specs.declared.scene.Window.{Window}
-use Rattle.dri_meaning.specs.EntryTable.{after_entry}
-use Rattle.dri_meaning.specs.Restacks.{change_stack}
-use Rattle.dri_meaning.specs.Runs.{after, after_entries}
-use Rattle.dri_meaning.specs.Worlds.{World, opening}
+use Rattle.dri_core.specs.EntryTable.{after_entry}
+use Rattle.dri_core.specs.Restacks.{change_stack}
+use Rattle.dri_core.specs.Runs.{after, after_entries}
+use Rattle.dri_core.specs.Worlds.{World, opening}
 use Rattle.dri_model.specs.Stacks.{Refusal, changed, is_corner, origin, refusal, refused_for, unless_refused, unmapped, window_in, without_owner}
 
 -- the stack has window n

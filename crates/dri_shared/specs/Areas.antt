@@ -4,7 +4,7 @@ use Rattle.std.specs.List.{range_with_len}
 use Rattle.std.specs.Option.{is_some}
 use Rattle.dri_base.specs.declared.scene.Scene.{Scene}
 use Rattle.dri_base.specs.declared.scene.Window.{Window}
-use Rattle.dri_meaning.specs.Worlds.{World}
+use Rattle.dri_core.specs.Worlds.{World}
 use Rattle.dri_model.specs.Stacks.{window_in}
 use Rattle.dri_sarea.specs.Areas.{Area, all_entries, no_drawable}
 use Rattle.dri_sarea.specs.declared.drawable.Drawable.{Drawable}

@@ -6,9 +6,9 @@ use Rattle.dri_base.specs.declared.journal.Entry.{Entry}
 use Rattle.dri_base.specs.declared.journal.Entry.TheVariants.{Run}
 use Rattle.dri_base.specs.Scenes.{command_at}
 use Rattle.dri_base.specs.declared.scene.Scene.{Scene}
-use Rattle.dri_meaning.specs.EntryTable.{AtTriangle}
-use Rattle.dri_meaning.specs.Privates.{textured_with}
-use Rattle.dri_meaning.specs.Worlds.{World}
+use Rattle.dri_core.specs.EntryTable.{AtTriangle}
+use Rattle.dri_core.specs.Privates.{textured_with}
+use Rattle.dri_core.specs.Worlds.{World}
 
 -- the next command of client c
 abbrev pub next_command : Scene → World → ℕ → Option Command

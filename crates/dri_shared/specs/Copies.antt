@@ -4,7 +4,7 @@ use Rattle.dri_base.specs.Scenes.{window_of}
 use Rattle.dri_base.specs.declared.scene.Scene.{Scene}
 use Rattle.dri_base.specs.declared.shape.Point.{Point}
 use Rattle.dri_base.specs.declared.shape.Rect.{Rect}
-use Rattle.dri_meaning.specs.Worlds.{World, clips_in}
+use Rattle.dri_core.specs.Worlds.{World, clips_in}
 use Rattle.dri_model.specs.Stacks.{origin}
 use Rattle.dri_rect.specs.Pixels.{inside}
 use Rattle.dri_shared.specs.declared.answers.Told.{Told}

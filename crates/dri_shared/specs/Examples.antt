@@ -8,9 +8,9 @@ use Rattle.dri_base.specs.declared.journal.Entry.TheVariants.{Light, Kernel, Sta
 use Rattle.dri_base.specs.declared.scene.Scene.{Scene}
 use Rattle.dri_base.specs.declared.texture.TexFormat.TheVariants.{L8}
 use Rattle.dri_base.specs.declared.texture.Texture.{Texture}
-use Rattle.dri_meaning.specs.ExampleScenes.{rgb, scene, script, textured, textured_frame, window}
-use Rattle.dri_meaning.specs.Runs.{after}
-use Rattle.dri_meaning.specs.Worlds.{World}
+use Rattle.dri_core.specs.ExampleParts.{rgb, scene, script, textured, textured_frame, window}
+use Rattle.dri_core.specs.Runs.{after}
+use Rattle.dri_core.specs.Worlds.{World}
 use Rattle.dri_shared.specs.Sides.{client_at, value_at}
 use Rattle.dri_shared.specs.States.{SharedState}
 use Rattle.dri_shared.specs.declared.client_side.ClientSide.{ClientSide}

@@ -10,9 +10,9 @@ use Rattle.dri_base.specs.declared.state.Registers.{Registers}
 use Rattle.dri_card.specs.Contents.{Contents, HaveSides, Holds, KeepSides, Shows, memory_of}
 use Rattle.dri_card.specs.Drawing.{OnlyShown}
 use Rattle.dri_clips.specs.Boards.{IsRestacked, Screen, stamps_of}
-use Rattle.dri_meaning.specs.Privates.{Private}
-use Rattle.dri_meaning.specs.Runs.{HoldRun, after}
-use Rattle.dri_meaning.specs.Worlds.{World}
+use Rattle.dri_core.specs.Privates.{Private}
+use Rattle.dri_core.specs.Runs.{HoldRun, after}
+use Rattle.dri_core.specs.Worlds.{World}
 use Rattle.dri_model.specs.Heaps.{Heap}
 use Rattle.dri_model.specs.Stacks.{painted}
 use Rattle.dri_shared.specs.declared.holdings.Holdings.{Holdings}

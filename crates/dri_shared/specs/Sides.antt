@@ -2,8 +2,8 @@
 use Rattle.std.specs.Prelude.{◌≡◌, ℕ}
 use Rattle.std.specs.Borrow.{GName}
 use Rattle.dri_base.specs.declared.journal.Entry.{Entry}
-use Rattle.dri_meaning.specs.Privates.{Private}
-use Rattle.dri_meaning.specs.Worlds.{World}
+use Rattle.dri_core.specs.Privates.{Private}
+use Rattle.dri_core.specs.Worlds.{World}
 use Rattle.dri_shared.specs.States.{SharedState, Added, world_of, MayAdd}
 use Rattle.dri_shared.specs.declared.client_side.ClientSide.{ClientSide}
 use Rattle.dri_shared.specs.declared.server_side.ServerSide.{ServerSide}

@@ -2,9 +2,9 @@
 use Rattle.std.specs.Prelude.{◌≡◌, ℕ, ◌+◌, List, [], ◌∷◌, ◌++◌}
 use Rattle.dri_base.specs.declared.journal.Entry.{Entry}
 use Rattle.dri_base.specs.declared.scene.Scene.{Scene}
-use Rattle.dri_meaning.specs.EntryTable.{LegalEntry}
-use Rattle.dri_meaning.specs.Runs.{after}
-use Rattle.dri_meaning.specs.Worlds.{World}
+use Rattle.dri_core.specs.EntryTable.{LegalEntry}
+use Rattle.dri_core.specs.Runs.{after}
+use Rattle.dri_core.specs.Worlds.{World}
 
 -- the scene, the journal, and the number of entries that there is room for
 pub record SharedState : Type 0 where

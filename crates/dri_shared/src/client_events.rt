@@ -4,8 +4,8 @@
 ghost use Rattle.std.specs.Prelude.{◌≡◌, ◌≤◌, ◌+◌, ◌==◌, not};
 ghost use Rattle.dri_base.specs.declared.journal.Entry.TheVariants.{Light, Kernel, Stale, Emit, Place, Leave};
 ghost use Rattle.dri_base.specs.Scenes.{window_of};
-ghost use Rattle.dri_meaning.specs.Privates.{own_registers};
-ghost use Rattle.dri_meaning.specs.Runs.{HoldRun};
+ghost use Rattle.dri_core.specs.Privates.{own_registers};
+ghost use Rattle.dri_core.specs.Runs.{HoldRun};
 ghost use Rattle.dri_model.specs.Groups.{bits};
 ghost use Rattle.dri_model.specs.Words.{register_words};
 ghost use Rattle.dri_shared.specs.Commands.{WantsPlace};

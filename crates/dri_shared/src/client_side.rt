@@ -4,9 +4,9 @@
 ghost use Rattle.std.specs.Prelude.{◌≡◌, ◌≤◌, ◌+◌, ◌==◌, not, true};
 ghost use Rattle.dri_base.specs.declared.journal.Entry.TheVariants.{Light, Kernel, Stale, Emit, Place, Leave};
 ghost use Rattle.dri_base.specs.Scenes.{window_of};
-ghost use Rattle.dri_meaning.specs.Privates.{is_triangle, own_registers, used_run};
-ghost use Rattle.dri_meaning.specs.Runs.{HoldRun};
-ghost use Rattle.dri_meaning.specs.Solo.{is_clear, is_swap};
+ghost use Rattle.dri_core.specs.Privates.{is_triangle, own_registers, used_run};
+ghost use Rattle.dri_core.specs.Runs.{HoldRun};
+ghost use Rattle.dri_core.specs.Solo.{is_clear, is_swap};
 ghost use Rattle.dri_model.specs.Groups.{bits};
 ghost use Rattle.dri_model.specs.Words.{register_words};
 ghost use Rattle.dri_shared.specs.Commands.{WantsPlace, is_setting, is_yield, next_command, next_run};

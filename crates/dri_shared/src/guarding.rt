@@ -2,7 +2,7 @@
 //! belongs to a context, 1 for the server and c + 1 for client c, and its closer is the context that the last hold left.
 
 ghost use Rattle.std.specs.Prelude.{◌≡◌};
-ghost use Rattle.dri_meaning.specs.Runs.{context_of};
+ghost use Rattle.dri_core.specs.Runs.{context_of};
 ghost use Rattle.dri_shared.specs.States.{world_of};
 
 use crate::shared::Shared;

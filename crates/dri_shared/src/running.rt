@@ -2,8 +2,8 @@
 //! last in the journal, and moves the client's place on.
 
 ghost use Rattle.std.specs.Prelude.{◌≡◌, ◌≤◌, true, IfSome};
-ghost use Rattle.dri_meaning.specs.Privates.{is_triangle, used_run};
-ghost use Rattle.dri_meaning.specs.Solo.{is_clear, is_swap};
+ghost use Rattle.dri_core.specs.Privates.{is_triangle, used_run};
+ghost use Rattle.dri_core.specs.Solo.{is_clear, is_swap};
 ghost use Rattle.dri_shared.specs.Commands.{is_setting, is_yield, next_command, next_run};
 ghost use Rattle.dri_shared.specs.Copies.{IsCopyOf, corner};
 ghost use Rattle.dri_shared.specs.States.{Added, MayAdd, world_of};

@@ -4,8 +4,8 @@ ghost use Rattle.std.specs.Prelude.{◌≡◌, ◌<◌, ◌≤◌, ◌+◌, [], 
 ghost use Rattle.dri_base.specs.Scenes.{bytes_of, command_at, regions_for, script_in, textures_of, window_of};
 ghost use Rattle.dri_base.specs.Texels.{texture_in};
 ghost use Rattle.dri_base.specs.declared.command.Command.TheVariants as Command;
-ghost use Rattle.dri_meaning.specs.Privates.{is_triangle};
-ghost use Rattle.dri_meaning.specs.Solo.{is_clear};
+ghost use Rattle.dri_core.specs.Privates.{is_triangle};
+ghost use Rattle.dri_core.specs.Solo.{is_clear};
 
 use dri_base::{ClientScript, Command, Rgb, Scene, Texture, Triangle};
 

@@ -5,8 +5,8 @@ ghost use Rattle.std.specs.Prelude.{◌≡◌, ◌≤◌, ◌<◌, [], Contains,
 ghost use Rattle.std.specs.Arc.{arc_value};
 ghost use Rattle.dri_base.specs.Planes.{plane};
 ghost use Rattle.dri_base.specs.Ranges.{InRange, client_numbers};
-ghost use Rattle.dri_meaning.specs.Frames.{Own, SoloLeft};
-ghost use Rattle.dri_meaning.specs.Runs.{Confined, HoldRun};
+ghost use Rattle.dri_core.specs.Frames.{Own, SoloLeft};
+ghost use Rattle.dri_core.specs.Runs.{Confined, HoldRun};
 ghost use Rattle.dri_shared.specs.Sides.{borrow_of, client_at, served_at, server_borrow_of, value_at};
 ghost use Rattle.dri_shared.specs.States.{IsSameRun, world_of};
 

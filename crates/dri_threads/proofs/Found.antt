@@ -9,12 +9,12 @@ use Rattle.dri_base.specs.declared.scene.Scene.{Scene}
 use Rattle.dri_hwlock.specs.Entries.{Adds, StartsWith, mine}
 use Rattle.dri_hwlock.specs.Tokens.{Token, IsSuccessor}
 use Rattle.dri_hwlock.proofs.Lists.{mine-append}
-use Rattle.dri_meaning.specs.Phases as Phase_is
-use Rattle.dri_meaning.specs.Phases.{Phase, is_done}
-use Rattle.dri_meaning.specs.Runs.{after, client_of, context_of}
-use Rattle.dri_meaning.specs.Worlds.{World, opening}
-use Rattle.dri_meaning.proofs.Laws.{foreign_entries, after_entries-append}
-use Rattle.dri_meaning.proofs.Stays.{made_stays}
+use Rattle.dri_core.specs.Phases as Phase_is
+use Rattle.dri_core.specs.Phases.{Phase, is_done}
+use Rattle.dri_core.specs.Runs.{after, client_of, context_of}
+use Rattle.dri_core.specs.Worlds.{World, opening}
+use Rattle.dri_core.proofs.Laws.{foreign_entries, after_entries-append}
+use Rattle.dri_core.proofs.Stays.{made_stays}
 use Rattle.dri_shared.specs.States.{SharedState}
 use Rattle.dri_driver.specs.Clients.{ClientState}
 use Rattle.dri_threads.specs.Sessions.{IsSeated, Grows, Works, is_at_rest}

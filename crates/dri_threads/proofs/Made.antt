@@ -3,12 +3,12 @@ use Rattle.std.specs.Prelude.{Result, Ok, Err, OnOk, OnErr}
 use Rattle.std.proofs.Common.{◌≡◌, ◌⊎◌, ℕ, ◌+◌, ◌≤◌, true, false, refl, sym, ap, ◌∙◌, subst, arith}
 use Rattle.dri_base.specs.declared.journal.Entry.{Entry}
 use Rattle.dri_base.specs.declared.journal.Entry.TheVariants.{Gone, Info, Change}
-use Rattle.dri_meaning.specs.Effects.{after_leave}
-use Rattle.dri_meaning.specs.EntryTable.{after_entry}
-use Rattle.dri_meaning.specs.Phases as Phase_is
-use Rattle.dri_meaning.specs.Phases.{Phase}
-use Rattle.dri_meaning.specs.Runs.{after, client_of}
-use Rattle.dri_meaning.specs.Worlds.{World}
+use Rattle.dri_core.specs.Effects.{after_leave}
+use Rattle.dri_core.specs.EntryTable.{after_entry}
+use Rattle.dri_core.specs.Phases as Phase_is
+use Rattle.dri_core.specs.Phases.{Phase}
+use Rattle.dri_core.specs.Runs.{after, client_of}
+use Rattle.dri_core.specs.Worlds.{World}
 use Rattle.dri_shared.specs.Copies.{IsToldOf, corner}
 use Rattle.dri_shared.specs.Sides.{value_at}
 use Rattle.dri_shared.specs.States.{SharedState, Added, IsSameRun, world_of}

@@ -15,9 +15,9 @@ use Rattle.dri_hwlock.specs.declared.guarded.Guarded.{Ghosts}
 use Rattle.dri_hwlock.specs.declared.tokens.Pass.{Pass}
 use Rattle.dri_hwlock.specs.Tokens.{Token, LockId, AreNew, IsSuccessor, pass_token, new_token}
 use Rattle.dri_hwlock.proofs.Lists.{at_end, at_before, at_length}
-use Rattle.dri_meaning.specs.Phases.{first_phase, is_done}
-use Rattle.dri_meaning.specs.Privates.{opening_part}
-use Rattle.dri_meaning.specs.Runs.{after}
+use Rattle.dri_core.specs.Phases.{first_phase, is_done}
+use Rattle.dri_core.specs.Privates.{opening_part}
+use Rattle.dri_core.specs.Runs.{after}
 use Rattle.dri_driver.specs.Clients.{ClientState}
 use Rattle.dri_driver.specs.Opening.{AreOpening, IsOpening}
 use Rattle.dri_driver.proofs.Openings.{number_at}

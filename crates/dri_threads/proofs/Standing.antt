@@ -4,7 +4,7 @@ use Rattle.dri_base.specs.declared.journal.Entry.{Entry}
 use Rattle.dri_base.specs.declared.scene.Scene.{Scene}
 use Rattle.dri_hwlock.specs.Entries.{StartsWith, mine}
 use Rattle.dri_hwlock.specs.Tokens.{Token, IsSuccessor, IsAfterLooks, after_look, with_seen}
-use Rattle.dri_meaning.specs.Runs.{after, context_of}
+use Rattle.dri_core.specs.Runs.{after, context_of}
 use Rattle.dri_shared.specs.States.{SharedState, world_of}
 use Rattle.dri_driver.specs.Clients.{ClientState}
 use Rattle.dri_threads.specs.Sessions.{Grows, Works, is_at_rest}

@@ -9,9 +9,9 @@ use Rattle.dri_base.specs.declared.scene.Scene.{Scene}
 use Rattle.dri_hwlock.specs.declared.guarded.Guarded.{Ghosts}
 use Rattle.dri_hwlock.specs.declared.tokens.Pass.{Pass}
 use Rattle.dri_hwlock.specs.Tokens.{LockId, BeginsWithEach, pass_token}
-use Rattle.dri_meaning.specs.Phases.{is_done}
-use Rattle.dri_meaning.specs.Runs.{after, HoldRun, Whole}
-use Rattle.dri_meaning.proofs.Stays.{all_made_stays, done_stays, whole_by_parts}
+use Rattle.dri_core.specs.Phases.{is_done}
+use Rattle.dri_core.specs.Runs.{after, HoldRun, Whole}
+use Rattle.dri_core.proofs.Stays.{all_made_stays, done_stays, whole_by_parts}
 use Rattle.dri_threads.specs.Rounds.{AreServed, IsEnough}
 use Rattle.dri_threads.proofs.Rounds.{number_below, number_within}
 

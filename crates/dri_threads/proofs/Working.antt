@@ -5,11 +5,11 @@ use mathlib.Core.List.{append_assoc, append-nil}
 use Rattle.dri_base.specs.Ranges.{client_numbers}
 use Rattle.dri_base.specs.declared.scene.Scene.{Scene}
 use Rattle.dri_base.specs.declared.journal.Entry.{Entry}
-use Rattle.dri_meaning.specs.Phases as Phase_is
-use Rattle.dri_meaning.specs.Phases.{Phase, left_from}
-use Rattle.dri_meaning.specs.EntryTable.{after_entry}
-use Rattle.dri_meaning.specs.Runs.{after, client_of, context_of}
-use Rattle.dri_meaning.specs.Worlds.{World}
+use Rattle.dri_core.specs.Phases as Phase_is
+use Rattle.dri_core.specs.Phases.{Phase, left_from}
+use Rattle.dri_core.specs.EntryTable.{after_entry}
+use Rattle.dri_core.specs.Runs.{after, client_of, context_of}
+use Rattle.dri_core.specs.Worlds.{World}
 use Rattle.dri_hwlock.specs.Entries.{AllOf}
 use Rattle.dri_shared.specs.States.{SharedState, Added, IsSameRun, world_of}
 use Rattle.dri_driver.specs.Acts.{IsActing}

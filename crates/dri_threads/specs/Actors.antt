@@ -4,7 +4,7 @@ use Rattle.dri_base.specs.Ranges.{IsWithin}
 use Rattle.dri_base.specs.declared.journal.Entry.{Entry}
 use Rattle.dri_base.specs.declared.scene.Scene.{Scene}
 use Rattle.dri_hwlock.specs.Tokens.{Token}
-use Rattle.dri_meaning.specs.Phases.{Phase, Out, Asking, Old, In, Over, Ask, Ended, Dead}
+use Rattle.dri_core.specs.Phases.{Phase, Out, Asking, Old, In, Over, Ask, Ended, Dead}
 use Rattle.dri_shared.specs.States.{SharedState}
 use Rattle.dri_driver.specs.Clients.{ClientState}
 use Rattle.dri_threads.specs.Sessions.{IsSeated, is_at_rest}

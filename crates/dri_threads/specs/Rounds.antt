@@ -9,8 +9,8 @@ use Rattle.dri_base.specs.declared.scene.Scene.{Scene}
 use Rattle.dri_hwlock.specs.declared.guarded.Guarded.{Ghosts}
 use Rattle.dri_hwlock.specs.declared.tokens.Pass.{Pass}
 use Rattle.dri_hwlock.specs.Tokens.{LockId, pass_token}
-use Rattle.dri_meaning.specs.Phases.{is_done}
-use Rattle.dri_meaning.specs.Runs.{after}
+use Rattle.dri_core.specs.Phases.{is_done}
+use Rattle.dri_core.specs.Runs.{after}
 use Rattle.dri_driver.specs.Clients.{ClientState}
 use Rattle.dri_driver.specs.Opening.{IsOpening}
 

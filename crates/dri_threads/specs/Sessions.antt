@@ -2,9 +2,9 @@
 use Rattle.std.specs.Prelude.{◌≡◌, ◌≢◌, ◌≤◌, ◌⊎◌, ℕ, ◌+◌, Bool, true, false, None, Contains}
 use Rattle.dri_base.specs.Ranges.{client_numbers}
 use Rattle.dri_base.specs.declared.journal.Entry.{Entry}
-use Rattle.dri_meaning.specs.Phases.{Phase, Out, Old, In, Over, Ask, Asking, Ended, Dead}
-use Rattle.dri_meaning.specs.Runs.{context_of}
-use Rattle.dri_meaning.specs.Worlds.{World}
+use Rattle.dri_core.specs.Phases.{Phase, Out, Old, In, Over, Ask, Asking, Ended, Dead}
+use Rattle.dri_core.specs.Runs.{context_of}
+use Rattle.dri_core.specs.Worlds.{World}
 use Rattle.dri_hwlock.specs.Entries.{Adds}
 use Rattle.dri_shared.specs.States.{SharedState, Added, world_of}
 use Rattle.dri_driver.specs.Clients.{ClientState}

@@ -2,9 +2,9 @@
 //! where that fails through the kernel; one that asks, and the server, take it as server.
 
 ghost use Rattle.std.specs.Prelude.{◌≡◌, ◌≤◌, ◌<◌, ◌+◌, length, false, true, IfOk, IfErr, Some};
-ghost use Rattle.dri_meaning.specs.Phases as Phase_is;
-ghost use Rattle.dri_meaning.specs.Phases.{is_done};
-ghost use Rattle.dri_meaning.specs.Runs.{after};
+ghost use Rattle.dri_core.specs.Phases as Phase_is;
+ghost use Rattle.dri_core.specs.Phases.{is_done};
+ghost use Rattle.dri_core.specs.Runs.{after};
 ghost use Rattle.dri_hwlock.specs.Tokens.{id_of, pass_token, late_token, hold_token, value_in, name_of, IsSuccessor};
 ghost use Rattle.dri_shared.specs.States.{world_of};
 ghost use Rattle.dri_driver.specs.Fits.{IsSameClient};

@@ -3,9 +3,9 @@
 
 ghost use Rattle.std.specs.Prelude.{◌≡◌, ◌≤◌, ◌+◌, ◌-◌, ◌↔◌, length, false, Some, IfOk, OnOk, OnErr};
 ghost use Rattle.dri_base.specs.declared.journal.Entry.TheVariants as Entry_is;
-ghost use Rattle.dri_meaning.specs.Effects.{after_leave};
-ghost use Rattle.dri_meaning.specs.Phases as Phase_is;
-ghost use Rattle.dri_meaning.specs.Runs.{client_of};
+ghost use Rattle.dri_core.specs.Effects.{after_leave};
+ghost use Rattle.dri_core.specs.Phases as Phase_is;
+ghost use Rattle.dri_core.specs.Runs.{client_of};
 ghost use Rattle.dri_shared.specs.Copies.{IsToldOf};
 ghost use Rattle.dri_shared.specs.States.{Added, MayAdd, world_of};
 ghost use Rattle.dri_driver.specs.Acts.{IfRan, IsActing, IsAtDeath, IsAtEnd, MustGo, UnlessRan};

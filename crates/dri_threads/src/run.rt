@@ -4,8 +4,8 @@ ghost use Rattle.std.specs.Prelude.{◌≡◌, ◌≤◌, ◌<◌, ◌+◌, ◌-
 ghost use Rattle.std.specs.Arc.{arc_value};
 ghost use Rattle.std.specs.Thread.{IsSync};
 ghost use Rattle.dri_base.specs.Ranges.{InRange, client_numbers};
-ghost use Rattle.dri_meaning.specs.Phases.{is_done};
-ghost use Rattle.dri_meaning.specs.Runs.{after};
+ghost use Rattle.dri_core.specs.Phases.{is_done};
+ghost use Rattle.dri_core.specs.Runs.{after};
 ghost use Rattle.dri_hwlock.specs.Tokens.{id_of, pass_token, passes_in, IsSuccessor, AreNew};
 ghost use Rattle.dri_driver.specs.Opening.{AreOpening, IsOpening};
 ghost use Rattle.dri_threads.specs.Actors.{Stands, IsNumber};

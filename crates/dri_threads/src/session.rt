@@ -2,7 +2,7 @@
 //! journal, makes room for all entries of the hold, passes the gate, and makes the entries.
 
 ghost use Rattle.std.specs.Prelude.{◌≡◌, ◌≤◌, ◌<◌, ◌+◌, ◌⊎◌, length, false, true, None, IfOk, OnOk};
-ghost use Rattle.dri_meaning.specs.Phases as Phase_is;
+ghost use Rattle.dri_core.specs.Phases as Phase_is;
 ghost use Rattle.dri_shared.specs.States.{IsSameRun, world_of};
 ghost use Rattle.dri_driver.specs.Acts.{IsActing, IsAtDeath};
 ghost use Rattle.dri_driver.specs.Checks.{phase_checked};

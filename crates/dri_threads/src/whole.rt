@@ -3,8 +3,8 @@
 ghost use Rattle.std.specs.Prelude.{◌≡◌, ◌≤◌, IfOk, IsFalse};
 ghost use Rattle.std.specs.Arc.{arc_value};
 ghost use Rattle.dri_base.specs.Ranges.{InRange};
-ghost use Rattle.dri_meaning.specs.Frames.{Own, SoloLeft};
-ghost use Rattle.dri_meaning.specs.Runs.{Confined, HoldRun, Whole};
+ghost use Rattle.dri_core.specs.Frames.{Own, SoloLeft};
+ghost use Rattle.dri_core.specs.Runs.{Confined, HoldRun, Whole};
 ghost use Rattle.dri_threads.specs.Rounds.{IsEnough};
 
 use crate::drivers::drivers_of;

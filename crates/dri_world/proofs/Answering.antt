@@ -15,13 +15,13 @@ use Rattle.dri_base.specs.declared.journal.Event.{Event}
 use Rattle.dri_base.specs.declared.scene.Scene.{Scene}
 use Rattle.dri_base.proofs.RangeLemmas.{well_formed}
 use Rattle.dri_driver.specs.Clients.{ClientState}
-use Rattle.dri_meaning.specs.CoreRuns.{IsRun, after_events}
-use Rattle.dri_meaning.specs.Cores.{opening_core}
-use Rattle.dri_meaning.specs.Phases.{is_holding}
-use Rattle.dri_meaning.specs.Privates.{Private}
-use Rattle.dri_meaning.specs.Worlds.{World}
-use Rattle.dri_meaning.specs.Turns.{kill, one_event, turn, turn_of}
-use Rattle.dri_meaning.proofs.Going.{Going, going_after}
+use Rattle.dri_core.specs.CoreRuns.{IsRun, after_events}
+use Rattle.dri_core.specs.Cores.{opening_core}
+use Rattle.dri_core.specs.Phases.{is_holding}
+use Rattle.dri_core.specs.Privates.{Private}
+use Rattle.dri_core.specs.Worlds.{World}
+use Rattle.dri_core.specs.Turns.{kill, one_event, turn, turn_of}
+use Rattle.dri_core.proofs.Going.{Going, going_after}
 use Rattle.dri_shared.specs.States.{IsSameRun, SharedState, world_of}
 use Rattle.dri_world.specs.Courses.{Course, GoesOn, IsPassedOver, IsPastKilling, LeavesLess, core_of, is_move, turned}
 use Rattle.dri_world.specs.Holding.{IsClientOf, IsHeld}

@@ -18,11 +18,11 @@ use Rattle.dri_shared.specs.Sides.{value_at}
 use Rattle.dri_shared.specs.declared.client_side.ClientSide.{ClientSide}
 use Rattle.dri_driver.specs.Clients.{ClientState}
 use Rattle.dri_driver.specs.Fits.{Fits, HasMade, IsSameClient}
-use Rattle.dri_meaning.specs.EventTable.{leaves}
-use Rattle.dri_meaning.specs.Phases as Phase_is
-use Rattle.dri_meaning.specs.Privates.{textured_with}
-use Rattle.dri_meaning.specs.Turns.{acting_turn, emit_turn, triangle_turn}
-use Rattle.dri_meaning.specs.Worlds.{World}
+use Rattle.dri_core.specs.EventTable.{leaves}
+use Rattle.dri_core.specs.Phases as Phase_is
+use Rattle.dri_core.specs.Privates.{textured_with}
+use Rattle.dri_core.specs.Turns.{acting_turn, emit_turn, triangle_turn}
+use Rattle.dri_core.specs.Worlds.{World}
 use Rattle.dri_model.specs.Groups.{is_empty, bits}
 use Rattle.dri_model.specs.Heaps as Heaps
 use Rattle.dri_shared.specs.Copies.{IsToldOf, corner}

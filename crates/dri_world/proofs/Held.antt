@@ -14,20 +14,20 @@ use Rattle.dri_base.specs.declared.scene.Scene.{Scene}
 use Rattle.dri_base.proofs.RangeLemmas.{IsWellFormed, well_formed}
 use Rattle.dri_driver.specs.Clients.{ClientState}
 use Rattle.dri_driver.specs.Opening.{AreOpening, IsOpening}
-use Rattle.dri_meaning.specs.CoreRuns.{IsRun, LegalEvents, after_events}
-use Rattle.dri_meaning.specs.Cores.{Core, Word, entry_of, journal_of, opening_core, with_entry}
-use Rattle.dri_meaning.specs.EventTable.{LegalEvent, after_event, queue_after, word_after, world_after}
-use Rattle.dri_meaning.specs.Phases.{Phase, Out, Old, In, Over, Ask, Asking, Ended, Dead}
-use Rattle.dri_meaning.specs.Runs.{after}
-use Rattle.dri_meaning.specs.Turns.{core_after, kill, one_event, or_waiting, server_turn, turn, turn_in, turn_of}
-use Rattle.dri_meaning.specs.Worlds.{World, opening}
-use Rattle.dri_meaning.specs.Privates.{opening_part}
-use Rattle.dri_meaning.proofs.Bounds.{numbers_within}
-use Rattle.dri_meaning.proofs.Cores.{IsLegal, journal_after, legal_of}
-use Rattle.dri_meaning.proofs.Going.{Going, going_after}
-use Rattle.dri_meaning.proofs.Laws.{after-push}
-use Rattle.dri_meaning.proofs.OneTurn.{turns_are_legal}
-use Rattle.dri_meaning.proofs.Rounds.{after_append, kill_legal}
+use Rattle.dri_core.specs.CoreRuns.{IsRun, LegalEvents, after_events}
+use Rattle.dri_core.specs.Cores.{Core, Word, entry_of, journal_of, opening_core, with_entry}
+use Rattle.dri_core.specs.EventTable.{LegalEvent, after_event, queue_after, word_after, world_after}
+use Rattle.dri_core.specs.Phases.{Phase, Out, Old, In, Over, Ask, Asking, Ended, Dead}
+use Rattle.dri_core.specs.Runs.{after}
+use Rattle.dri_core.specs.Turns.{core_after, kill, one_event, or_waiting, server_turn, turn, turn_in, turn_of}
+use Rattle.dri_core.specs.Worlds.{World, opening}
+use Rattle.dri_core.specs.Privates.{opening_part}
+use Rattle.dri_core.proofs.Bounds.{numbers_within}
+use Rattle.dri_core.proofs.Cores.{IsLegal, journal_after, legal_of}
+use Rattle.dri_core.proofs.Going.{Going, going_after}
+use Rattle.dri_core.proofs.Laws.{after-push}
+use Rattle.dri_core.proofs.OneTurn.{turns_are_legal}
+use Rattle.dri_core.proofs.Rounds.{after_append, kill_legal}
 use Rattle.dri_shared.specs.States.{IsSameRun, SharedState, world_of}
 use Rattle.dri_world.specs.Holding.{HasClients, IsClientOf, IsHeld}
 use Rattle.dri_world.specs.Locks.{core_at}

@@ -7,13 +7,13 @@ use Rattle.dri_base.specs.Scenes.{command_at, commands_of}
 use Rattle.dri_base.specs.declared.journal.Event.{Event}
 use Rattle.dri_base.specs.declared.journal.Event.TheVariants.{Kernel, Info, Change, Stop, Gone}
 use Rattle.dri_base.specs.declared.scene.Scene.{Scene}
-use Rattle.dri_meaning.specs.Cores.{Core, is_first, is_next, is_queued}
-use Rattle.dri_meaning.specs.Phases.{Phase, Out, Old, In, Over, Ask, Asking, Ended, Dead, is_done, is_holding, wants_in}
-use Rattle.dri_meaning.specs.Turns.{kill, or_waiting, turn, turn_in, waiting}
-use Rattle.dri_meaning.proofs.Endings.{acts, there}
-use Rattle.dri_meaning.proofs.EventTurns.{first_is, first_queued}
-use Rattle.dri_meaning.proofs.Lively.{Lively}
-use Rattle.dri_meaning.proofs.TurnEvents.{Known, is_first_of}
+use Rattle.dri_core.specs.Cores.{Core, is_first, is_next, is_queued}
+use Rattle.dri_core.specs.Phases.{Phase, Out, Old, In, Over, Ask, Asking, Ended, Dead, is_done, is_holding, wants_in}
+use Rattle.dri_core.specs.Turns.{kill, or_waiting, turn, turn_in, waiting}
+use Rattle.dri_core.proofs.Endings.{acts, there}
+use Rattle.dri_core.proofs.EventTurns.{first_is, first_queued}
+use Rattle.dri_core.proofs.Lively.{Lively}
+use Rattle.dri_core.proofs.TurnEvents.{Known, is_first_of}
 use Rattle.dri_world.specs.Courses.{HasMarked, IsBehind, IsPassedOver, IsPastKilling, turned}
 use Rattle.dri_world.specs.declared.turned.Turned.{Turned}
 use Rattle.dri_world.specs.declared.turned.Turned.TheVariants.{Did, Passed}

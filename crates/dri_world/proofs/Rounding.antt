@@ -13,15 +13,15 @@ use Rattle.dri_base.specs.declared.journal.Event.{Event}
 use Rattle.dri_base.specs.declared.scene.ClientScript.{ClientScript}
 use Rattle.dri_base.specs.declared.scene.Scene.{Scene}
 use Rattle.dri_base.proofs.RangeLemmas.{well_formed}
-use Rattle.dri_meaning.specs.CoreRuns.{after_events}
-use Rattle.dri_meaning.specs.Cores.{Core, journal_of, opening_core}
-use Rattle.dri_meaning.specs.Measures.{work_left}
-use Rattle.dri_meaning.specs.Runs.{Whole}
-use Rattle.dri_meaning.specs.Turns.{all_pass, core_after, item_event, one_event, played, round, rounds, turn}
-use Rattle.dri_meaning.proofs.Going.{Going, going_after, turn_less}
-use Rattle.dri_meaning.proofs.Rounds.{after_append, played_append}
-use Rattle.dri_meaning.proofs.RoundsEnd.{more_rounds}
-use Rattle.dri_meaning.proofs.RunLaws.{whole_where_passed}
+use Rattle.dri_core.specs.CoreRuns.{after_events}
+use Rattle.dri_core.specs.Cores.{Core, journal_of, opening_core}
+use Rattle.dri_core.specs.Measures.{work_left}
+use Rattle.dri_core.specs.Runs.{Whole}
+use Rattle.dri_core.specs.Turns.{all_pass, core_after, item_event, one_event, played, round, rounds, turn}
+use Rattle.dri_core.proofs.Going.{Going, going_after, turn_less}
+use Rattle.dri_core.proofs.Rounds.{after_append, played_append}
+use Rattle.dri_core.proofs.RoundsEnd.{more_rounds}
+use Rattle.dri_core.proofs.RunLaws.{whole_where_passed}
 use Rattle.dri_world.specs.Courses.{Course, GoesOn, IsPlayedIn, IsPlayedOn, IsSound, LeavesLess, MayTake, core_of, is_move, turned}
 use Rattle.dri_world.proofs.Places.{some_one}
 use Rattle.dri_world.specs.declared.turned.Turned.{Turned}

@@ -11,15 +11,15 @@ use Rattle.dri_base.specs.declared.journal.Entry.TheVariants as Entry_is
 use Rattle.dri_base.specs.declared.journal.Event.{Event}
 use Rattle.dri_base.specs.declared.journal.Event.TheVariants.{Light, Kernel, Queue, Mark, Stale, Emit, Place, Run, LeaveLight, LeaveKernel, Info, Change, Stop, Gone}
 use Rattle.dri_base.specs.declared.scene.Scene.{Scene}
-use Rattle.dri_meaning.specs.Cores.{Core, entry_of, is_first, is_next, is_queued}
-use Rattle.dri_meaning.specs.EventTable.{dying_after, world_after}
-use Rattle.dri_meaning.specs.Phases.{Phase, Out, Old, In, Over, Ask, Asking, Ended, Dead, is_done, is_holding}
-use Rattle.dri_meaning.specs.Privates.{textured_with}
-use Rattle.dri_meaning.specs.Runs.{client_of}
-use Rattle.dri_meaning.specs.TurnLaws.{actor_of}
-use Rattle.dri_meaning.specs.Turns.{turn, turn_in, emit_turn, triangle_turn, acting_turn, core_after, server_turn, waiting, or_waiting, kill}
-use Rattle.dri_meaning.specs.Worlds.{World}
-use Rattle.dri_meaning.proofs.Laws.{foreign_entries}
+use Rattle.dri_core.specs.Cores.{Core, entry_of, is_first, is_next, is_queued}
+use Rattle.dri_core.specs.EventTable.{dying_after, world_after}
+use Rattle.dri_core.specs.Phases.{Phase, Out, Old, In, Over, Ask, Asking, Ended, Dead, is_done, is_holding}
+use Rattle.dri_core.specs.Privates.{textured_with}
+use Rattle.dri_core.specs.Runs.{client_of}
+use Rattle.dri_core.specs.TurnLaws.{actor_of}
+use Rattle.dri_core.specs.Turns.{turn, turn_in, emit_turn, triangle_turn, acting_turn, core_after, server_turn, waiting, or_waiting, kill}
+use Rattle.dri_core.specs.Worlds.{World}
+use Rattle.dri_core.proofs.Laws.{foreign_entries}
 use Rattle.dri_model.specs.Groups.{is_empty, bits}
 use Rattle.dri_model.specs.Heaps as Heaps
 

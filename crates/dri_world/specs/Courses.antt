@@ -6,11 +6,11 @@ use Rattle.dri_base.specs.declared.command.Item.{Item}
 use Rattle.dri_base.specs.declared.command.Item.TheVariants.{Kill, Turn}
 use Rattle.dri_base.specs.declared.journal.Event.{Event}
 use Rattle.dri_base.specs.declared.scene.Scene.{Scene}
-use Rattle.dri_meaning.specs.CoreRuns.{IsRun, after_events}
-use Rattle.dri_meaning.specs.Cores.{Core, IsFirst, is_first, is_queued, opening_core}
-use Rattle.dri_meaning.specs.Measures.{one_if, work_left}
-use Rattle.dri_meaning.specs.Phases.{is_done}
-use Rattle.dri_meaning.specs.Turns.{all_pass, played, round, rounds}
+use Rattle.dri_core.specs.CoreRuns.{IsRun, after_events}
+use Rattle.dri_core.specs.Cores.{Core, IsFirst, is_first, is_queued, opening_core}
+use Rattle.dri_core.specs.Measures.{one_if, work_left}
+use Rattle.dri_core.specs.Phases.{is_done}
+use Rattle.dri_core.specs.Turns.{all_pass, played, round, rounds}
 use Rattle.dri_world.specs.declared.turned.Turned.{Turned}
 use Rattle.dri_world.specs.declared.turned.Turned.TheVariants.{Did, Passed}
 

@@ -5,8 +5,8 @@ use Rattle.dri_base.specs.declared.scene.Scene.{Scene}
 use Rattle.dri_base.specs.declared.journal.Event.{Event}
 use Rattle.dri_driver.specs.Clients.{ClientState}
 use Rattle.dri_driver.specs.Fits.{Fits}
-use Rattle.dri_meaning.specs.CoreRuns.{IsRun, after_events}
-use Rattle.dri_meaning.specs.Cores.{Core, journal_of, opening_core}
+use Rattle.dri_core.specs.CoreRuns.{IsRun, after_events}
+use Rattle.dri_core.specs.Cores.{Core, journal_of, opening_core}
 use Rattle.dri_shared.specs.States.{SharedState}
 use Rattle.dri_world.specs.declared.lock.Lock.{Lock}
 

@@ -5,8 +5,8 @@ use Rattle.dri_base.specs.declared.journal.Entry.{Entry}
 use Rattle.dri_base.specs.declared.journal.Event.{Event}
 use Rattle.dri_driver.specs.Clients.{ClientState}
 use Rattle.dri_driver.specs.Fits.{Fits}
-use Rattle.dri_meaning.specs.Cores.{entry_of, journal_of}
-use Rattle.dri_meaning.specs.Turns.{core_after, one_event}
+use Rattle.dri_core.specs.Cores.{entry_of, journal_of}
+use Rattle.dri_core.specs.Turns.{core_after, one_event}
 use Rattle.dri_shared.specs.States.{MayAdd, SharedState}
 use Rattle.dri_world.specs.Locks.{core_at}
 use Rattle.dri_world.specs.declared.lock.Lock.{Lock}

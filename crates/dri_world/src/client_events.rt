@@ -4,8 +4,8 @@ ghost use Rattle.std.specs.Prelude.{◌≡◌, ◌≤◌, ◌⊎◌, false, true
 ghost use Rattle.dri_base.specs.Scenes.{command_at};
 ghost use Rattle.dri_base.specs.declared.journal.Entry.TheVariants as Entry_is;
 ghost use Rattle.dri_driver.specs.Clients.{part_of};
-ghost use Rattle.dri_meaning.specs.Phases as Phase_is;
-ghost use Rattle.dri_meaning.specs.Turns.{acting_turn};
+ghost use Rattle.dri_core.specs.Phases as Phase_is;
+ghost use Rattle.dri_core.specs.Turns.{acting_turn};
 ghost use Rattle.dri_shared.specs.Copies.{IsToldOf};
 ghost use Rattle.dri_shared.specs.States.{Added, MayAdd, world_of};
 ghost use Rattle.dri_world.specs.Turns.{Brings, IsSeated, MayBring};

@@ -4,9 +4,9 @@ ghost use Rattle.std.specs.Prelude.{◌≡◌, ◌↔◌, false, true, IfOk, OnE
 ghost use Rattle.dri_base.specs.declared.journal.Entry.TheVariants as Entry_is;
 ghost use Rattle.dri_driver.specs.Acts.{IfRan, IsAtDeath, IsAtEnd, MustGo, UnlessRan, event_of, next_event};
 ghost use Rattle.dri_driver.specs.Fits.{Fits, IsSameClient};
-ghost use Rattle.dri_meaning.specs.Phases as Phase_is;
-ghost use Rattle.dri_meaning.specs.Phases.{is_holding};
-ghost use Rattle.dri_meaning.specs.Turns.{kill, or_waiting, turn_in, turn_of, waiting};
+ghost use Rattle.dri_core.specs.Phases as Phase_is;
+ghost use Rattle.dri_core.specs.Phases.{is_holding};
+ghost use Rattle.dri_core.specs.Turns.{kill, or_waiting, turn_in, turn_of, waiting};
 ghost use Rattle.dri_shared.specs.States.{Added, MayAdd, world_of};
 ghost use Rattle.dri_world.specs.Locks.{core_at};
 ghost use Rattle.dri_world.specs.Turns.{Brings, IsSeated, MayBring};

@@ -2,9 +2,9 @@
 //! kernel's, context 1 the server's, and context k + 1 that of client k.
 
 ghost use Rattle.std.specs.Prelude.{◌≡◌, ◌≤◌, ◌+◌, ◌&&◌, not, true, false, Bool, []};
-ghost use Rattle.dri_meaning.specs.Cores.{is_first, is_next, journal_of, word_number};
-ghost use Rattle.dri_meaning.specs.EventTable.{leaves};
-ghost use Rattle.dri_meaning.specs.Turns.{core_after, one_event, waiting};
+ghost use Rattle.dri_core.specs.Cores.{is_first, is_next, journal_of, word_number};
+ghost use Rattle.dri_core.specs.EventTable.{leaves};
+ghost use Rattle.dri_core.specs.Turns.{core_after, one_event, waiting};
 ghost use Rattle.dri_shared.specs.States.{SharedState};
 ghost use Rattle.dri_world.specs.Locks.{core_at};
 
@@ -22,7 +22,7 @@ pub(crate) struct LockWord {
 
 impl Model for LockWord {
     ghost use Rattle.std.specs.Prelude.{◌≤◌};
-    ghost use Rattle.dri_meaning.specs.Cores.{Word};
+    ghost use Rattle.dri_core.specs.Cores.{Word};
 
     ghost Value = { Word };
 

@@ -1,9 +1,9 @@
 //! Rounds of one turn each, the clients in rising order and then the server, until a whole round is passed over.
 
 ghost use Rattle.std.specs.Prelude.{◌≡◌, ◌↔◌, [], IfOk, OnOk, OnErr, false};
-ghost use Rattle.dri_meaning.specs.Cores.{journal_of};
-ghost use Rattle.dri_meaning.specs.Runs.{Whole};
-ghost use Rattle.dri_meaning.specs.Turns.{played, round};
+ghost use Rattle.dri_core.specs.Cores.{journal_of};
+ghost use Rattle.dri_core.specs.Runs.{Whole};
+ghost use Rattle.dri_core.specs.Turns.{played, round};
 ghost use Rattle.dri_world.specs.Courses.{GoesOn, IsPlayedIn, IsPlayedOn, IsPlayedOut, IsSound, LeavesLess, core_of, is_move};
 
 use crate::turned::Turned;

@@ -1,7 +1,7 @@
 //! The scene's schedule: its turns and kills, in order.
 
 ghost use Rattle.std.specs.Prelude.{◌≡◌, IfOk, OnOk, OnErr};
-ghost use Rattle.dri_meaning.specs.Turns.{item_event, one_event, played};
+ghost use Rattle.dri_core.specs.Turns.{item_event, one_event, played};
 ghost use Rattle.dri_world.specs.Courses.{GoesOn, IsScheduledIn, MayTake, core_of};
 
 use crate::turned::Turned;

@@ -2,7 +2,7 @@
 
 ghost use Rattle.std.specs.Prelude.{◌≡◌, ◌≤◌, ◌+◌, ◌-◌, length, false, IfOk, OnOk, OnErr, Some, None};
 ghost use Rattle.dri_base.specs.declared.journal.Entry.TheVariants as Entry_is;
-ghost use Rattle.dri_meaning.specs.Turns.{server_turn};
+ghost use Rattle.dri_core.specs.Turns.{server_turn};
 ghost use Rattle.dri_shared.specs.States.{MayAdd, world_of};
 ghost use Rattle.dri_world.specs.Locks.{core_at};
 ghost use Rattle.dri_world.specs.Turns.{MayBring, ServerBrings};

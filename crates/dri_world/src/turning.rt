@@ -3,7 +3,7 @@
 ghost use Rattle.std.specs.Prelude.{◌≡◌, ◌↔◌, ◌<◌, ◌++◌, vec_len, vec_capacity, true, IfOk, OnOk, OnErr, Some, Contains, slice_get};
 ghost use Rattle.dri_base.specs.Ranges.{client_numbers};
 ghost use Rattle.dri_base.specs.Scenes.{is_named};
-ghost use Rattle.dri_meaning.specs.Turns.{kill, one_event, turn};
+ghost use Rattle.dri_core.specs.Turns.{kill, one_event, turn};
 ghost use Rattle.dri_world.specs.Courses.{GoesOn, IsActor, IsPassedOver, IsPastKilling, IsSound, LeavesLess, core_of, is_move, turned};
 
 use crate::client_turns::{kill_of, turn_of};

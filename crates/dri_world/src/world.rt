@@ -6,9 +6,9 @@ ghost use Rattle.std.specs.Prelude.{◌≡◌, [], IfOk};
 ghost use Rattle.std.specs.Arc.{arc_value};
 ghost use Rattle.dri_base.specs.Planes.{plane};
 ghost use Rattle.dri_base.specs.Ranges.{InRange};
-ghost use Rattle.dri_meaning.specs.CoreRuns.{ConfinedRun, IsRun, OwnRun, SoloLeftRun, world_of};
-ghost use Rattle.dri_meaning.specs.Cores.{journal_of, word_number};
-ghost use Rattle.dri_meaning.specs.Runs.{HoldRun, after};
+ghost use Rattle.dri_core.specs.CoreRuns.{ConfinedRun, IsRun, OwnRun, SoloLeftRun, world_of};
+ghost use Rattle.dri_core.specs.Cores.{journal_of, word_number};
+ghost use Rattle.dri_core.specs.Runs.{HoldRun, after};
 ghost use Rattle.dri_shared.specs.Areas.{area_of};
 ghost use Rattle.dri_world.specs.Courses.{core_of};
 

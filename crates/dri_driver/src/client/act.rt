@@ -2,8 +2,8 @@
 //! texture the texture is placed, and before any triangle the card learns what is dirty.
 
 ghost use Rattle.std.specs.Prelude.{◌≡◌, ◌≢◌, ◌+◌, ◌≤◌, ◌↔◌, Some};
-ghost use Rattle.dri_meaning.specs.Phases.{In};
-ghost use Rattle.dri_meaning.specs.Runs.{client_of};
+ghost use Rattle.dri_core.specs.Phases.{In};
+ghost use Rattle.dri_core.specs.Runs.{client_of};
 ghost use Rattle.dri_shared.specs.Sides.{client_at, value_at, world_at};
 ghost use Rattle.dri_driver.specs.Acts.{IfRan, IsActing, IsAtDeath, IsAtEnd, IsStep, MustGo, UnlessRan, event_of, next_event};
 ghost use Rattle.dri_driver.specs.Clients.{next_command};

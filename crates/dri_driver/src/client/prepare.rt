@@ -1,8 +1,8 @@
 //! Making ready for a triangle: its texture gets regions and is uploaded, and the card learns the groups that are dirty.
 
 ghost use Rattle.std.specs.Prelude.{◌≡◌, ◌≤◌, Some, None, true, false};
-ghost use Rattle.dri_meaning.specs.Phases.{In};
-ghost use Rattle.dri_meaning.specs.Privates.{is_ready, is_triangle};
+ghost use Rattle.dri_core.specs.Phases.{In};
+ghost use Rattle.dri_core.specs.Privates.{is_ready, is_triangle};
 ghost use Rattle.dri_model.specs.Groups.{is_empty};
 ghost use Rattle.dri_shared.specs.Sides.{client_at, value_at};
 ghost use Rattle.dri_driver.specs.Acts.{IsStep};

@@ -1,9 +1,9 @@
 //! Running the client's next command, one function for each kind.
 
 ghost use Rattle.std.specs.Prelude.{◌≡◌, ◌+◌, ◌<◌, ◌≤◌, Some, true};
-ghost use Rattle.dri_meaning.specs.Effects.{is_last};
-ghost use Rattle.dri_meaning.specs.Phases.{In, phase_after};
-ghost use Rattle.dri_meaning.specs.Privates.{is_ready};
+ghost use Rattle.dri_core.specs.Effects.{is_last};
+ghost use Rattle.dri_core.specs.Phases.{In, phase_after};
+ghost use Rattle.dri_core.specs.Privates.{is_ready};
 ghost use Rattle.dri_model.specs.Groups.{is_empty};
 ghost use Rattle.dri_shared.specs.Sides.{client_at, value_at};
 ghost use Rattle.dri_texheap.specs.RegionStates.{heap_of};

@@ -4,8 +4,8 @@
 
 ghost use Rattle.std.specs.Prelude.{◌≡◌, ◌+◌, ◌≤◌, ◌↔◌};
 ghost use Rattle.dri_base.specs.declared.journal.Entry.TheVariants.{Kernel, Leave, Light, Stale};
-ghost use Rattle.dri_meaning.specs.Effects.{after_leave};
-ghost use Rattle.dri_meaning.specs.Phases.{Ask, In};
+ghost use Rattle.dri_core.specs.Effects.{after_leave};
+ghost use Rattle.dri_core.specs.Phases.{Ask, In};
 ghost use Rattle.dri_model.specs.Groups.{all_where, with_bound};
 ghost use Rattle.dri_shared.specs.Sides.{MayMake, client_at, value_at, world_at};
 ghost use Rattle.dri_texheap.specs.RegionStates.{heap_of};

@@ -1,7 +1,7 @@
 //! The client's textures: which one a triangle needs, where it is placed, and what the card is to know of the bound one.
 
 ghost use Rattle.std.specs.Prelude.{◌≡◌};
-ghost use Rattle.dri_meaning.specs.Privates.{bound_texture, textured_with, used_run};
+ghost use Rattle.dri_core.specs.Privates.{bound_texture, textured_with, used_run};
 ghost use Rattle.dri_model.specs.Words.{IsBoundInRange};
 ghost use Rattle.dri_driver.specs.Clients.{part_of};
 

@@ -6,7 +6,7 @@ use Rattle.dri_base.specs.Ranges.{client_numbers}
 use Rattle.dri_base.specs.Scenes.{commands_of}
 use Rattle.dri_base.specs.declared.scene.Scene.{Scene}
 use Rattle.dri_driver.specs.Clients.{ClientState}
-use Rattle.dri_meaning.specs.Privates.{opening_part}
+use Rattle.dri_core.specs.Privates.{opening_part}
 use Rattle.dri_driver.specs.Opening.{IsOpening}
 use Rattle.dri_driver.proofs.Openings.{number_at, opening_more}
 use Rattle.dri_driver.proofs.opening.clients_of.Goals as goal

@@ -1,6 +1,6 @@
 -- What is left of the script leads to the frame.
 use Rattle.std.proofs.Common.{◌≡◌, ◌+◌, ◌<◌, ◌≤◌, drop, IfSome}
-use Rattle.dri_meaning.specs.Solo.{frame, frame_from}
+use Rattle.dri_core.specs.Solo.{frame, frame_from}
 use Rattle.dri_meaning.proofs.frame.frame_of.Given as goal
 
 abbrev pub invariant-loop-i : goal.invariant-loop-i

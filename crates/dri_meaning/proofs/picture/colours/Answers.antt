@@ -3,7 +3,7 @@ use Rattle.std.proofs.Common.{◌≡◌, ◌<◌, ◌*◌, ◌-◌, ◌%◌, ◌
 use Rattle.std.proofs.Math.Nat.{mod-lt, div-lt_iff_lt-mul}
 use Rattle.std.proofs.lemmas.Int.{to_z_pos}
 use Rattle.dri_base.proofs.PlaneLists.{no_pixels, pixels_more}
-use Rattle.dri_meaning.specs.Solo.{solo}
+use Rattle.dri_core.specs.Solo.{solo}
 use Rattle.dri_meaning.proofs.picture.colours.Goals as goal
 
 pub loop-n-init : goal.loop-n-init

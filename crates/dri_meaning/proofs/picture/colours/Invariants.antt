@@ -1,7 +1,7 @@
 -- The pixels so far.
 use Rattle.std.proofs.Common.{◌≡◌, ◌-◌, suc, pos}
 use Rattle.dri_base.specs.Planes.{first_pixels}
-use Rattle.dri_meaning.specs.Solo.{solo}
+use Rattle.dri_core.specs.Solo.{solo}
 use Rattle.dri_meaning.proofs.picture.colours.Given as goal
 
 abbrev pub invariant-loop-n : goal.invariant-loop-n

@@ -1,6 +1,6 @@
 -- Each pixel is the frame's, drawn alone.
 use Rattle.std.proofs.Common.{◌≡◌, Some, rules}
-use Rattle.dri_meaning.specs.Solo.{frame}
+use Rattle.dri_core.specs.Solo.{frame}
 use Rattle.dri_meaning.proofs.SoloPixels.{all_drawn}
 use Rattle.dri_meaning.proofs.picture.solo_picture.Goals as goal
 

@@ -2,7 +2,7 @@ use Rattle.std.proofs.Common.{◌∷◌, [], rules, arith, refl, inr}
 use Rattle.std.proofs.lemmas.List.Elements.{All-append, All-replicate}
 use Rattle.dri_base.specs.Ranges.{ItemInRange}
 use Rattle.dri_base.specs.declared.command.Item.TheVariants.{Turn}
-use Rattle.dri_meaning.specs.ExampleScenes.{turns_of}
+use Rattle.dri_core.specs.ExampleParts.{turns_of}
 use Rattle.dri_meaning.proofs.worked.two_textures.Goals as goal
 
 pub returns-clause-in_range : goal.returns-clause-in_range

@@ -2,7 +2,7 @@
 use Rattle.std.proofs.Common.{◌≡◌, List, All, ap, sym, ◌∙◌, subst, rules}
 use Rattle.dri_base.specs.declared.journal.Entry.{Entry}
 use Rattle.dri_base.specs.declared.scene.Scene.{Scene}
-use Rattle.dri_meaning.specs.Runs.{Whole, plain}
+use Rattle.dri_core.specs.Runs.{Whole, plain}
 use Rattle.dri_run.specs.Journals.{FitsWords, journal_text}
 use Rattle.dri_run.specs.ThreadedRun.{IsJournalOf}
 use Rattle.dri_run.proofs.Threading.{gives}

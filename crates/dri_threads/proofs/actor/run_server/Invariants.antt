@@ -1,5 +1,5 @@
 use Rattle.std.proofs.Common.{◌≡◌, ◌≤◌, ◌-◌, length}
-use Rattle.dri_meaning.specs.Runs.{after}
+use Rattle.dri_core.specs.Runs.{after}
 use Rattle.dri_hwlock.specs.Tokens.{pass_token, IsSuccessor}
 use Rattle.dri_threads.proofs.actor.run_server.Given as goal
 

@@ -1,5 +1,5 @@
 use Rattle.std.proofs.Common.{rules, subst, ℕ, ◌≡◌}
-use Rattle.dri_meaning.specs.Runs.{client_of}
+use Rattle.dri_core.specs.Runs.{client_of}
 use Rattle.dri_driver.specs.Acts.{IfRan}
 use Rattle.dri_threads.proofs.Made.{acted_makes}
 use Rattle.dri_threads.proofs.events.act.Goals as goal

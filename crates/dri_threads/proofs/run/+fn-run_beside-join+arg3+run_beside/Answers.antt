@@ -4,8 +4,8 @@ use Rattle.dri_base.specs.Ranges.{client_numbers}
 use Rattle.dri_base.specs.declared.journal.Entry.{Entry}
 use Rattle.dri_base.specs.declared.scene.Scene.{Scene}
 use Rattle.dri_hwlock.specs.Tokens.{Token, IsSuccessor, AreNew, id_of, new_token, pass_token, passes_in}
-use Rattle.dri_meaning.specs.Phases.{is_done}
-use Rattle.dri_meaning.specs.Runs.{after}
+use Rattle.dri_core.specs.Phases.{is_done}
+use Rattle.dri_core.specs.Runs.{after}
 use Rattle.dri_threads.specs.Actors.{IsNumber, Stands}
 use Rattle.dri_threads.specs.Rounds.{AreBelow, AreServed}
 use Rattle.dri_threads.proofs.Rounds.{new_last, number_within, stands_opened, served_back, served_none, weaker}

@@ -1,6 +1,6 @@
 use Rattle.std.proofs.Common.{refl}
 use Rattle.dri_base.specs.declared.journal.Entry.TheVariants.{Info}
-use Rattle.dri_meaning.specs.Phases.{Out}
+use Rattle.dri_core.specs.Phases.{Out}
 use Rattle.dri_threads.proofs.Made.{left_kept, made_added, one_grows, one_left, one_works, phase_rests}
 use Rattle.dri_threads.proofs.Working.{grows_none}
 use Rattle.dri_threads.proofs.session.asking_session.Goals as goal

@@ -1,6 +1,6 @@
 use Rattle.std.proofs.Common.{◌≡◌, refl, rules}
 use Rattle.dri_base.specs.declared.journal.Entry.TheVariants.{Gone}
-use Rattle.dri_meaning.specs.Phases.{Dead}
+use Rattle.dri_core.specs.Phases.{Dead}
 use Rattle.dri_threads.specs.declared.session.Exit.TheVariants as Exit_is
 use Rattle.dri_threads.proofs.Made.{left_at_rest, left_kept, made_added, one_grows, one_works, phase_rests, same_run}
 use Rattle.dri_threads.proofs.Working.{grows_one, left_by, works_made}

@@ -2,8 +2,8 @@ use Rattle.std.proofs.Common.{rules, sym, ◌∙◌, ◌≡◌, ℕ, length, sub
 use Rattle.std.specs.Arc.{arc_value}
 use Rattle.dri_base.specs.declared.scene.Scene.{Scene}
 use Rattle.dri_hwlock.specs.Tokens.{id_of, passes_in, AreNew}
-use Rattle.dri_meaning.specs.Frames.{Own, SoloLeft}
-use Rattle.dri_meaning.specs.Runs.{HoldRun}
+use Rattle.dri_core.specs.Frames.{Own, SoloLeft}
+use Rattle.dri_core.specs.Runs.{HoldRun}
 use Rattle.dri_threads.specs.Rounds.{IsEnough}
 use Rattle.dri_threads.proofs.Wholes.{whole_end}
 use Rattle.dri_threads.proofs.whole.run_clients.Goals as goal

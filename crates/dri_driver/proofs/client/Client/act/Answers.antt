@@ -1,5 +1,5 @@
 use Rattle.std.proofs.Common.{◌≡◌, sym, ◌∙◌}
-use Rattle.dri_meaning.specs.Phases.{In, Over}
+use Rattle.dri_core.specs.Phases.{In, Over}
 use Rattle.dri_driver.proofs.client.Client.act.Goals as goal
 
 not_over : In ≡ Over → ⊥

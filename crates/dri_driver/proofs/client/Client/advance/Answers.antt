@@ -1,7 +1,7 @@
 use Rattle.std.proofs.Common.{◌+◌, length, arith, ap, subst, sym, ◌∙◌}
 use Rattle.std.specs.Prelude.{pred}
 use Rattle.std.proofs.lemmas.Option.{slice_get_within}
-use Rattle.dri_meaning.specs.Effects.{is_last}
+use Rattle.dri_core.specs.Effects.{is_last}
 use Rattle.dri_driver.specs.Clients.{ClientState, next_command, script_of_client}
 use Rattle.dri_driver.specs.Kept.{GoesOn, state_of}
 use Rattle.dri_driver.proofs.Counts.{goes_after}

@@ -1,8 +1,8 @@
 use Rattle.std.proofs.Common.{◌≡◌, ◌≤◌, ◌+◌, ◌*◌, ◌∙◌, ap, arith, eqb, inl, inr, subst, Bool, true, false, ℕ}
 use Rattle.std.specs.Prelude.{if◌then◌else◌, not, ◌==◌, ◌⊎◌}
 use Rattle.std.proofs.lemmas.Bool.Decides.{nat_tests}
-use Rattle.dri_meaning.specs.Phases.{Phase, In, Old, Out}
-use Rattle.dri_meaning.specs.Privates.{Private}
+use Rattle.dri_core.specs.Phases.{Phase, In, Old, Out}
+use Rattle.dri_core.specs.Privates.{Private}
 use Rattle.dri_texheap.specs.RegionStates.{heap_of}
 use Rattle.dri_driver.specs.Activities.{phase_in}
 use Rattle.dri_driver.specs.Clients.{ClientState}

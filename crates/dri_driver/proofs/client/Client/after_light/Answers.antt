@@ -1,7 +1,7 @@
 use Rattle.std.proofs.Common.{ap, ◌∙◌, inl, refl, subst}
 use Rattle.dri_base.specs.declared.journal.Entry.TheVariants.{Light}
-use Rattle.dri_meaning.specs.Phases.{In}
-use Rattle.dri_meaning.specs.Privates.{Private}
+use Rattle.dri_core.specs.Phases.{In}
+use Rattle.dri_core.specs.Privates.{Private}
 use Rattle.dri_driver.specs.Clients.{ClientState}
 use Rattle.dri_driver.specs.Kept.{IsKept, state_of}
 use Rattle.dri_driver.specs.declared.phase.Activity.TheVariants as Activity_is

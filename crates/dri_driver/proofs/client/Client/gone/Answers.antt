@@ -1,5 +1,5 @@
 use Rattle.std.proofs.Common.{ap}
-use Rattle.dri_meaning.specs.Phases.{Dead}
+use Rattle.dri_core.specs.Phases.{Dead}
 use Rattle.dri_driver.specs.Clients.{ClientState, part_of}
 use Rattle.dri_driver.proofs.Telling.{gone_fits}
 use Rattle.dri_driver.proofs.client.Client.gone.Goals as goal

@@ -1,8 +1,8 @@
 use Rattle.std.proofs.Common.{◌≡◌, ◌∙◌, ◌-◌, ap}
 use Rattle.dri_base.specs.declared.journal.Entry.TheVariants.{Leave}
-use Rattle.dri_meaning.specs.Effects.{after_leave}
-use Rattle.dri_meaning.specs.Phases.{Phase, left_from}
-use Rattle.dri_meaning.specs.Worlds.{World}
+use Rattle.dri_core.specs.Effects.{after_leave}
+use Rattle.dri_core.specs.Phases.{Phase, left_from}
+use Rattle.dri_core.specs.Worlds.{World}
 use Rattle.dri_driver.specs.Activities.{phase_in}
 use Rattle.dri_driver.specs.Clients.{ClientState, part_of}
 use Rattle.dri_driver.proofs.Fitting.{leave_made, left_phase, makes_at, world_added}

@@ -6,8 +6,8 @@ use Rattle.dri_base.specs.declared.scene.Scene.{Scene}
 use Rattle.dri_base.specs.declared.shape.Rect.{Rect}
 use Rattle.dri_base.specs.declared.state.State.{State}
 use Rattle.dri_base.specs.Scenes.{commands_of, script_in, script_of}
-use Rattle.dri_meaning.specs.Phases.{first_phase}
-use Rattle.dri_meaning.specs.Privates.{opening_part}
+use Rattle.dri_core.specs.Phases.{first_phase}
+use Rattle.dri_core.specs.Privates.{opening_part}
 use Rattle.dri_shared.specs.Copies.{IsCopyOf}
 use Rattle.dri_texheap.proofs.Losing.{inside_none}
 use Rattle.dri_driver.specs.Clients.{copy_of}

@@ -5,7 +5,7 @@ use Rattle.std.proofs.lemmas.Bool.Decides.{nat_tests}
 use Rattle.dri_base.specs.declared.journal.Entry.TheVariants.{Place}
 use Rattle.dri_base.specs.declared.scene.Scene.{Scene}
 use Rattle.dri_base.specs.declared.state.State.{State}
-use Rattle.dri_meaning.specs.Privates.{textured_with}
+use Rattle.dri_core.specs.Privates.{textured_with}
 use Rattle.dri_model.specs.Groups.{with_bound}
 use Rattle.dri_model.specs.Heaps.{Heap, classes_for, is_newer, lose, lowest_place}
 use Rattle.dri_shared.specs.Sides.{value_at, world_at}

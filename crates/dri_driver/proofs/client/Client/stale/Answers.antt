@@ -1,6 +1,6 @@
 use Rattle.std.proofs.Common.{ap}
 use Rattle.dri_base.specs.declared.journal.Entry.TheVariants.{Stale}
-use Rattle.dri_meaning.specs.Phases.{Ask}
+use Rattle.dri_core.specs.Phases.{Ask}
 use Rattle.dri_driver.specs.Clients.{ClientState}
 use Rattle.dri_driver.proofs.Fitting.{makes_at, stale_made}
 use Rattle.dri_driver.proofs.client.Client.stale.Goals as goal

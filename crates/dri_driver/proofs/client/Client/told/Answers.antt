@@ -1,5 +1,5 @@
 use Rattle.std.proofs.Common.{ap}
-use Rattle.dri_meaning.specs.Phases.{Out}
+use Rattle.dri_core.specs.Phases.{Out}
 use Rattle.dri_shared.specs.Copies.{corner}
 use Rattle.dri_driver.specs.Clients.{ClientState}
 use Rattle.dri_driver.proofs.Telling.{told_fits}

@@ -2,8 +2,8 @@ use Rattle.std.proofs.Common.{◌≡◌, ◌<◌, ◌∙◌, Some, ap, refl, sub
 use Rattle.std.specs.Prelude.{is_some}
 use Rattle.dri_base.specs.declared.command.Command.TheVariants.{Triangle}
 use Rattle.dri_base.specs.declared.journal.Entry.TheVariants.{Run}
-use Rattle.dri_meaning.specs.Effects.{local_after}
-use Rattle.dri_meaning.specs.Privates.{used_run}
+use Rattle.dri_core.specs.Effects.{local_after}
+use Rattle.dri_core.specs.Privates.{used_run}
 use Rattle.dri_shared.specs.Sides.{world_at}
 use Rattle.dri_driver.specs.Clients.{ClientState, part_of}
 use Rattle.dri_driver.specs.Kept.{state_of}

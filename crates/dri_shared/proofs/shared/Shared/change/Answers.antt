@@ -2,9 +2,9 @@ use Rattle.std.proofs.Common.{◌+◌, ◌-◌, ◌≤◌, ◌≡◌, Some, subs
 use Rattle.std.specs.Arc.{arc_value}
 use Rattle.dri_base.specs.declared.journal.Entry.TheVariants.{Change}
 use Rattle.dri_base.specs.declared.scene.Scene.{Scene}
-use Rattle.dri_meaning.specs.EntryTable.{LegalEntry}
-use Rattle.dri_meaning.specs.Runs.{after}
-use Rattle.dri_meaning.proofs.Bounds.{stamp_most}
+use Rattle.dri_core.specs.EntryTable.{LegalEntry}
+use Rattle.dri_core.specs.Runs.{after}
+use Rattle.dri_core.proofs.Bounds.{stamp_most}
 use Rattle.dri_shared.specs.States.{MayAdd, SharedState, world_of}
 use Rattle.dri_shared.proofs.Steps.{changed_windows, faithful}
 use Rattle.dri_shared.proofs.shared.Shared.change.Goals as goal

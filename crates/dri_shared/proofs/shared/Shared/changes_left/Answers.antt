@@ -1,6 +1,6 @@
 -- No more changes are made than there are.
 use Rattle.std.specs.Arc.{arc_value}
-use Rattle.dri_meaning.proofs.Bounds.{made_bounded}
+use Rattle.dri_core.proofs.Bounds.{made_bounded}
 use Rattle.dri_shared.proofs.shared.Shared.changes_left.Goals as goal
 
 pub overflow_sub-result : goal.overflow_sub-result

@@ -1,9 +1,9 @@
 use Rattle.std.proofs.Common.{◌≡◌, subst, sym}
 use Rattle.std.specs.Arc.{arc_value}
 use Rattle.dri_base.specs.declared.journal.Entry.TheVariants.{Emit}
-use Rattle.dri_meaning.specs.EntryTable.{LegalEntry}
-use Rattle.dri_meaning.specs.Privates.{own_registers}
-use Rattle.dri_meaning.specs.Runs.{after}
+use Rattle.dri_core.specs.EntryTable.{LegalEntry}
+use Rattle.dri_core.specs.Privates.{own_registers}
+use Rattle.dri_core.specs.Runs.{after}
 use Rattle.dri_model.specs.Groups.{bits}
 use Rattle.dri_model.specs.Words.{loaded, register_words}
 use Rattle.dri_shared.specs.States.{MayAdd, SharedState, world_of}

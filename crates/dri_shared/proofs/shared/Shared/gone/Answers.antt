@@ -1,9 +1,9 @@
 use Rattle.std.proofs.Common.{◌-◌, ◌≤◌, None, subst, sym, arith, vec_len, vec_capacity, refl, rules}
 use Rattle.std.specs.Arc.{arc_value}
 use Rattle.dri_base.specs.declared.journal.Entry.TheVariants.{Gone}
-use Rattle.dri_meaning.specs.EntryTable.{LegalEntry}
-use Rattle.dri_meaning.specs.Runs.{after}
-use Rattle.dri_meaning.proofs.Bounds.{stamp_most}
+use Rattle.dri_core.specs.EntryTable.{LegalEntry}
+use Rattle.dri_core.specs.Runs.{after}
+use Rattle.dri_core.proofs.Bounds.{stamp_most}
 use Rattle.dri_shared.specs.States.{MayAdd, SharedState}
 use Rattle.dri_shared.proofs.Steps.{faithful, gone}
 use Rattle.dri_shared.proofs.shared.Shared.gone.Goals as goal

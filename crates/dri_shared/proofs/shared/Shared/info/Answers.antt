@@ -1,9 +1,9 @@
 use Rattle.std.proofs.Common.{subst, sym}
 use Rattle.std.specs.Arc.{arc_value}
 use Rattle.dri_base.specs.declared.journal.Entry.TheVariants.{Info}
-use Rattle.dri_meaning.specs.EntryTable.{LegalEntry}
-use Rattle.dri_meaning.specs.Phases.{Asking}
-use Rattle.dri_meaning.specs.Runs.{after}
+use Rattle.dri_core.specs.EntryTable.{LegalEntry}
+use Rattle.dri_core.specs.Phases.{Asking}
+use Rattle.dri_core.specs.Runs.{after}
 use Rattle.dri_shared.specs.States.{MayAdd}
 use Rattle.dri_shared.proofs.Clients.{window_there}
 use Rattle.dri_shared.proofs.Steps.{faithful, info}

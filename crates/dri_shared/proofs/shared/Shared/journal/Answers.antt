@@ -1,5 +1,5 @@
 -- The laws of hold-runs.
-use Rattle.dri_meaning.proofs.RunLaws.{confined, own, solo_left}
+use Rattle.dri_core.proofs.RunLaws.{confined, own, solo_left}
 use Rattle.dri_shared.proofs.shared.Shared.journal.Goals as goal
 
 pub returns-clause-in_range : goal.returns-clause-in_range

@@ -1,9 +1,9 @@
 use Rattle.std.proofs.Common.{◌+◌, Some, subst, sym, arith}
 use Rattle.std.specs.Arc.{arc_value}
 use Rattle.dri_base.specs.declared.journal.Entry.TheVariants.{Kernel}
-use Rattle.dri_meaning.specs.EntryTable.{LegalEntry}
-use Rattle.dri_meaning.specs.Phases.{Out}
-use Rattle.dri_meaning.specs.Runs.{after}
+use Rattle.dri_core.specs.EntryTable.{LegalEntry}
+use Rattle.dri_core.specs.Phases.{Out}
+use Rattle.dri_core.specs.Runs.{after}
 use Rattle.dri_shared.specs.States.{MayAdd}
 use Rattle.dri_shared.proofs.Clients.{client_below, window_there}
 use Rattle.dri_shared.proofs.Steps.{faithful, kernel}

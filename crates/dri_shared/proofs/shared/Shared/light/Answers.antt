@@ -1,7 +1,7 @@
 use Rattle.std.proofs.Common.{Some, subst, sym}
 use Rattle.std.specs.Arc.{arc_value}
 use Rattle.dri_base.specs.declared.journal.Entry.TheVariants.{Light}
-use Rattle.dri_meaning.specs.Runs.{after}
+use Rattle.dri_core.specs.Runs.{after}
 use Rattle.dri_shared.specs.States.{MayAdd}
 use Rattle.dri_shared.proofs.Steps.{faithful, light}
 use Rattle.dri_shared.proofs.shared.Shared.light.Goals as goal

@@ -7,10 +7,10 @@ use Rattle.dri_base.specs.declared.journal.Entry.TheVariants.{Place}
 use Rattle.dri_base.specs.declared.scene.Scene.{Scene}
 use Rattle.dri_base.proofs.RangeLemmas.{region_size_above}
 use Rattle.dri_card.specs.Contents.{memory_of}
-use Rattle.dri_meaning.specs.Effects.{run_at}
-use Rattle.dri_meaning.specs.EntryTable.{LegalEntry}
-use Rattle.dri_meaning.specs.Runs.{after}
-use Rattle.dri_meaning.proofs.Bounds.{age_most_of_all}
+use Rattle.dri_core.specs.Effects.{run_at}
+use Rattle.dri_core.specs.EntryTable.{LegalEntry}
+use Rattle.dri_core.specs.Runs.{after}
+use Rattle.dri_core.proofs.Bounds.{age_most_of_all}
 use Rattle.dri_model.specs.Heaps.{Heap, Run as RunOf, allocated, is_place_for, uploaded}
 use Rattle.dri_shared.specs.Commands.{WantsPlace}
 use Rattle.dri_shared.specs.States.{MayAdd, SharedState, world_of}

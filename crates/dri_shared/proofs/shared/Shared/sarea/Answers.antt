@@ -3,7 +3,7 @@ use Rattle.std.specs.Arc.{arc_value}
 use Rattle.dri_base.specs.declared.scene.Scene.{Scene}
 use Rattle.dri_base.specs.declared.scene.Window.{Window}
 use Rattle.dri_clips.specs.Boards.{stamps_of}
-use Rattle.dri_meaning.specs.Runs.{after}
+use Rattle.dri_core.specs.Runs.{after}
 use Rattle.dri_sarea.specs.Areas.{Area, all_entries}
 use Rattle.dri_sarea.specs.declared.drawable.Drawable.{Drawable}
 use Rattle.dri_shared.specs.Areas.{area_of, has_number}

@@ -2,9 +2,9 @@ use Rattle.std.proofs.Common.{◌+◌, ◌≡◌, slice_index_or, slice_set, sub
 use Rattle.std.specs.Arc.{arc_value}
 use Rattle.dri_base.specs.Scenes.{command_at}
 use Rattle.dri_base.specs.declared.journal.Entry.TheVariants.{Run}
-use Rattle.dri_meaning.specs.EntryTable.{LegalEntry}
-use Rattle.dri_meaning.specs.Phases.{In}
-use Rattle.dri_meaning.specs.Runs.{after}
+use Rattle.dri_core.specs.EntryTable.{LegalEntry}
+use Rattle.dri_core.specs.Phases.{In}
+use Rattle.dri_core.specs.Runs.{after}
 use Rattle.dri_shared.proofs.Steps.{faithful}
 use Rattle.dri_shared.specs.States.{MayAdd, SharedState, world_of}
 use Rattle.dri_shared.specs.Commands.{is_setting, next_command, next_run}

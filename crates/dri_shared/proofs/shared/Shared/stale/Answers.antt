@@ -1,7 +1,7 @@
 use Rattle.std.proofs.Common.{subst, sym}
 use Rattle.std.specs.Arc.{arc_value}
 use Rattle.dri_base.specs.declared.journal.Entry.TheVariants.{Stale}
-use Rattle.dri_meaning.specs.Runs.{after}
+use Rattle.dri_core.specs.Runs.{after}
 use Rattle.dri_shared.specs.States.{MayAdd}
 use Rattle.dri_shared.proofs.Steps.{faithful, stale}
 use Rattle.dri_shared.proofs.shared.Shared.stale.Goals as goal

@@ -2,9 +2,9 @@ use Rattle.std.proofs.Common.{◌+◌, ◌≡◌, slice_index_or, slice_set, sub
 use Rattle.std.specs.Arc.{arc_value}
 use Rattle.dri_base.specs.Scenes.{command_at}
 use Rattle.dri_base.specs.declared.journal.Entry.TheVariants.{Run}
-use Rattle.dri_meaning.specs.EntryTable.{LegalEntry}
-use Rattle.dri_meaning.specs.Phases.{In}
-use Rattle.dri_meaning.specs.Runs.{after}
+use Rattle.dri_core.specs.EntryTable.{LegalEntry}
+use Rattle.dri_core.specs.Phases.{In}
+use Rattle.dri_core.specs.Runs.{after}
 use Rattle.dri_shared.proofs.Steps.{faithful}
 use Rattle.dri_shared.specs.States.{MayAdd, SharedState, world_of}
 use Rattle.dri_base.specs.Ranges.{IsPlace}
@@ -15,10 +15,10 @@ use Rattle.dri_shared.proofs.Windows.{origin_after}
 use Rattle.dri_model.specs.Heaps.{Heap}
 use Rattle.dri_shared.proofs.Inside.{use_is}
 use Rattle.dri_shared.proofs.Bindings.{triangle_in}
-use Rattle.dri_meaning.proofs.Bounds.{age_most_of_all}
+use Rattle.dri_core.proofs.Bounds.{age_most_of_all}
 use Rattle.dri_base.specs.declared.command.Command.TheVariants.{Triangle}
 use Rattle.dri_base.specs.declared.scene.Scene.{Scene}
-use Rattle.dri_meaning.specs.Privates.{is_triangle, used_run}
+use Rattle.dri_core.specs.Privates.{is_triangle, used_run}
 use Rattle.dri_shared.specs.Commands.{next_command, next_run}
 use Rattle.dri_shared.proofs.Ran.{ran_triangle}
 use Rattle.dri_shared.proofs.shared.Shared.triangle.Goals as goal

@@ -1,5 +1,5 @@
 use Rattle.std.proofs.Common.{◌<◌, ◌++◌, ◌∙◌, length, ap, rules}
-use Rattle.dri_meaning.specs.Turns.{one_event}
+use Rattle.dri_core.specs.Turns.{one_event}
 use Rattle.dri_world.proofs.Answering.{is_seated, stands_at, still_held, turn_answers, turn_event, turn_held, turn_may, within}
 use Rattle.dri_world.proofs.Held.{same_run}
 use Rattle.dri_world.proofs.world.World.client_turn.Goals as goal

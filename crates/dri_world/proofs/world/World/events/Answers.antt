@@ -1,5 +1,5 @@
 use Rattle.std.specs.Arc.{arc_value}
-use Rattle.dri_meaning.proofs.RunLaws.{confined_events, own_events, solo_left_events}
+use Rattle.dri_core.proofs.RunLaws.{confined_events, own_events, solo_left_events}
 use Rattle.dri_world.proofs.world.World.events.Goals as goal
 
 pub returns-clause-in_range : goal.returns-clause-in_range

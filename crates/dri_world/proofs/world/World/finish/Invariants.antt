@@ -1,5 +1,5 @@
 use Rattle.std.proofs.Common.{◌+◌}
-use Rattle.dri_meaning.specs.Measures.{one_if, work_left}
+use Rattle.dri_core.specs.Measures.{one_if, work_left}
 use Rattle.dri_world.specs.Courses.{core_of}
 use Rattle.dri_world.proofs.Rounding.{PlaysRounds}
 use Rattle.dri_world.proofs.world.World.finish.Given as goal

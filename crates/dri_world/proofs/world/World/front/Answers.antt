@@ -2,8 +2,8 @@ use Rattle.std.proofs.Common.{◌≡◌, ◌∙◌, ap, subst}
 use Rattle.std.specs.Arc.{arc_value}
 use Rattle.dri_base.specs.Planes.{plane}
 use Rattle.dri_base.specs.declared.scene.Scene.{Scene}
-use Rattle.dri_meaning.specs.CoreRuns.{world_of}
-use Rattle.dri_meaning.specs.Worlds.{World}
+use Rattle.dri_core.specs.CoreRuns.{world_of}
+use Rattle.dri_core.specs.Worlds.{World}
 use Rattle.dri_shared.specs.States as States
 use Rattle.dri_world.specs.Courses.{Course}
 use Rattle.dri_world.proofs.Held.{world_is}

@@ -1,9 +1,9 @@
 use Rattle.std.proofs.Common.{◌≡◌, subst}
 use Rattle.std.specs.Arc.{arc_value}
-use Rattle.dri_meaning.specs.CoreRuns.{world_of}
-use Rattle.dri_meaning.specs.Cores.{journal_of}
-use Rattle.dri_meaning.specs.Runs.{after}
-use Rattle.dri_meaning.proofs.Cores.{journal_after}
+use Rattle.dri_core.specs.CoreRuns.{world_of}
+use Rattle.dri_core.specs.Cores.{journal_of}
+use Rattle.dri_core.specs.Runs.{after}
+use Rattle.dri_core.proofs.Cores.{journal_after}
 use Rattle.dri_world.specs.Courses.{Course}
 use Rattle.dri_world.proofs.world.World.journal.Goals as goal
 

@@ -3,7 +3,7 @@ use Rattle.std.specs.Prelude.{Contains, Some, slice_get, true}
 use Rattle.dri_base.specs.Ranges.{client_numbers}
 use Rattle.dri_base.specs.declared.scene.Scene.{Scene}
 use Rattle.dri_base.specs.Scenes.{is_named}
-use Rattle.dri_meaning.specs.Turns.{one_event}
+use Rattle.dri_core.specs.Turns.{one_event}
 use Rattle.dri_world.specs.Courses.{Course}
 use Rattle.dri_world.proofs.Answering.{is_seated, dying_rests, kill_answers, kill_event, kill_held, kill_may, stands_in, still_held, within_scene, named_there}
 use Rattle.dri_world.proofs.Held.{same_run}

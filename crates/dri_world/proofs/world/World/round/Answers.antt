@@ -3,7 +3,7 @@ use Rattle.std.specs.Prelude.{◌||◌, slice_get}
 use Rattle.dri_driver.proofs.Openings.{number_at}
 use Rattle.dri_base.specs.Ranges.{client_numbers}
 use Rattle.dri_base.specs.declared.scene.Scene.{Scene}
-use Rattle.dri_meaning.specs.Turns.{played, round}
+use Rattle.dri_core.specs.Turns.{played, round}
 use Rattle.dri_world.specs.Courses.{Course, GoesOn, IsPlayedIn, core_of}
 use Rattle.dri_world.proofs.Rounding.{less_less, moves_done, moves_step, round_client, round_done, turn_on}
 use Rattle.dri_world.proofs.world.World.round.Goals as goal

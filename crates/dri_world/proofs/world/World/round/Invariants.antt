@@ -1,6 +1,6 @@
 use Rattle.std.proofs.Common.{◌≡◌, [], false, length, take}
 use Rattle.std.specs.Prelude.{◌↔◌}
-use Rattle.dri_meaning.specs.Turns.{played, round}
+use Rattle.dri_core.specs.Turns.{played, round}
 use Rattle.dri_world.specs.Courses.{GoesOn, LeavesLess, core_of}
 use Rattle.dri_world.proofs.world.World.round.Given as goal
 

@@ -1,5 +1,5 @@
 use Rattle.std.proofs.Common.{◌≡◌, length, take}
-use Rattle.dri_meaning.specs.Turns.{played}
+use Rattle.dri_core.specs.Turns.{played}
 use Rattle.dri_world.specs.Courses.{GoesOn, core_of}
 use Rattle.dri_world.proofs.world.World.run_schedule.Given as goal
 

@@ -3,9 +3,9 @@ use Rattle.std.specs.Prelude.{IfOk}
 use Rattle.std.specs.Arc.{arc_value}
 use Rattle.std.proofs.lemmas.Result.{IfOk-weaker}
 use Rattle.dri_base.specs.declared.scene.Scene.{Scene}
-use Rattle.dri_meaning.specs.CoreRuns.{world_of}
-use Rattle.dri_meaning.specs.Cores.{word_number}
-use Rattle.dri_meaning.specs.Worlds.{World}
+use Rattle.dri_core.specs.CoreRuns.{world_of}
+use Rattle.dri_core.specs.Cores.{word_number}
+use Rattle.dri_core.specs.Worlds.{World}
 use Rattle.dri_sarea.specs.Areas.{Area}
 use Rattle.dri_shared.specs.Areas.{area_of}
 use Rattle.dri_shared.specs.States as States

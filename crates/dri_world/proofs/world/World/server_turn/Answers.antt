@@ -1,5 +1,5 @@
 use Rattle.std.proofs.Common.{◌++◌, ◌∙◌, ap}
-use Rattle.dri_meaning.specs.Turns.{one_event}
+use Rattle.dri_core.specs.Turns.{one_event}
 use Rattle.dri_world.proofs.Answering.{turn_answers}
 use Rattle.dri_world.proofs.Held.{may_turn, same_run, served_on, server_same, unserved_on}
 use Rattle.dri_world.proofs.world.World.server_turn.Goals as goal

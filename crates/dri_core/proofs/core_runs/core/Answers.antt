@@ -1,0 +1,18 @@
+use Rattle.dri_core.proofs.Cores.{journal_after}
+use Rattle.dri_core.proofs.RunLaws.{hold_run, confined_events, own_events, solo_left_events}
+use Rattle.dri_core.proofs.core_runs.core.Goals as goal
+
+pub returns-clause-journal : goal.returns-clause-journal
+returns-clause-journal c = hold_run
+
+pub returns-clause-world : goal.returns-clause-world
+returns-clause-world c = journal_after
+
+pub returns-clause-confined : goal.returns-clause-confined
+returns-clause-confined c = confined_events
+
+pub returns-clause-own : goal.returns-clause-own
+returns-clause-own c = own_events
+
+pub returns-clause-solo : goal.returns-clause-solo
+returns-clause-solo c = solo_left_events

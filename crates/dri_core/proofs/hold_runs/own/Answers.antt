@@ -1,0 +1,5 @@
+use Rattle.dri_core.proofs.RunLaws as RunLaws
+use Rattle.dri_core.proofs.hold_runs.own.Goals as goal
+
+pub returns : goal.returns
+returns c = RunLaws.own

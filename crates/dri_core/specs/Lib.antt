@@ -1,0 +1,17 @@
+pub mod Solo
+pub mod Phases
+pub mod Privates
+pub mod Worlds
+pub mod Restacks
+pub mod Effects
+pub mod EntryTable
+pub mod Runs
+pub mod Frames
+pub mod Cores
+pub mod EventTable
+pub mod CoreRuns
+pub mod Turns
+pub mod TurnLaws
+pub mod Decide
+pub mod Measures
+pub mod ExampleParts

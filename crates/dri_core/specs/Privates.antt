@@ -1,0 +1,136 @@
+-- What one client keeps: its private part.
+use Rattle.std.specs.Prelude.{Bool, List, None, Option, Some, false, if◌then◌else◌, is_some, pos, true, ℕ, ℤ, ◌&&◌, ◌==◌}
+use Rattle.dri_base.specs.States.{default_state, state_after}
+use Rattle.dri_base.specs.Texels.{texture_bound}
+use Rattle.dri_base.specs.declared.command.Command.{Command}
+use Rattle.dri_base.specs.declared.command.Command.TheVariants.{Clear, Die, Set, Swap, Triangle, Yield}
+use Rattle.dri_base.specs.declared.scene.Scene.{Scene}
+use Rattle.dri_base.specs.declared.state.Registers.{Registers}
+use Rattle.dri_base.specs.declared.state.State.{State}
+use Rattle.dri_base.specs.declared.state.TexMode.{TexMode}
+use Rattle.dri_base.specs.declared.texture.BoundTexture.{BoundTexture}
+use Rattle.dri_base.specs.declared.texture.Texture.{Texture}
+use Rattle.dri_core.specs.Phases.{Phase, first_phase}
+use Rattle.dri_base.specs.Scenes.{textures_of}
+use Rattle.dri_model.specs.Groups.{Groups, all_groups, is_empty}
+use Rattle.dri_model.specs.Heaps.{Run, any_in, base_of, lose}
+use Rattle.dri_model.specs.Words.{registers_for}
+use Rattle.dri_base.specs.declared.state.TexMode.TheVariants as Mode_is
+
+-- what one client keeps
+pub record Private : Type 0 where
+  -- its next command, counted from 1
+  pub place : ℕ
+  pub phase : Phase
+  -- its window's stamp, as it was told
+  pub stamp : ℕ
+  -- its copy of its window's clips, by column and row of the screen
+  pub copy : ℕ → ℕ → Bool
+  -- its copy of its window's origin
+  pub origin : ℤ × ℤ
+  -- its own drawing state
+  pub state : State
+  -- the groups that the card may not have as the client wants them
+  pub dirty : Groups
+  -- the runs of its placed textures, by number
+  pub placed : ℕ → Option Run
+  -- the age up to which it knows the regions
+  pub local : ℕ
+
+-- a client's part at the opening
+abbrev pub opening_part : List Command → Private
+opening_part cs = record {
+  place = 1;
+  phase = first_phase cs;
+  stamp = 0;
+  copy = λ x y. false;
+  origin = (pos 0, pos 0);
+  state = default_state;
+  dirty = all_groups;
+  placed = λ t. None;
+  local = 0;
+}
+
+-- the texture that a triangle needs: the bound one, where the mode isn't off
+abbrev pub texture_used : TexMode → Option ℕ → Option ℕ
+texture_used Mode_is.Off bound = None
+texture_used Mode_is.Replace bound = bound
+texture_used Mode_is.Modulate bound = bound
+
+-- the texture that the state is textured with
+abbrev pub textured_with : State → Option ℕ
+textured_with s = texture_used s.tex_mode s.bound
+
+-- where a texture is placed
+abbrev pub run_of : (ℕ → Option Run) → Option ℕ → Option Run
+run_of placed None = None
+run_of placed (Some t) = placed t
+
+-- the run of the texture that a triangle needs
+abbrev pub used_run : Private → Option Run
+used_run p = run_of p.placed (textured_with p.state)
+
+-- no texture is needed, or it is placed
+abbrev pub is_ready_for : (ℕ → Option Run) → Option ℕ → Bool
+is_ready_for placed None = true
+is_ready_for placed (Some t) = is_some (placed t)
+
+-- a texture that a triangle needs is placed
+abbrev pub is_ready : Private → Bool
+is_ready p = is_ready_for p.placed (textured_with p.state)
+
+-- a placed texture by its shape and its base
+abbrev pub bound_at : ℕ → Option Texture → Option Run → Option BoundTexture
+bound_at size None run = None
+bound_at size (Some t) None = None
+bound_at size (Some t) (Some run) = Some (record { shape = t.shape; base = base_of size run })
+
+-- the bound texture as the card is to know it: none where it isn't placed
+abbrev pub bound_texture : Scene → ℕ → Private → Option BoundTexture
+bound_texture s c p = bound_at s.region_size (texture_bound (textures_of s c) p.state.bound) (run_of p.placed p.state.bound)
+
+-- the registers that client c would emit now
+abbrev pub own_registers : Scene → ℕ → Private → Registers
+own_registers s c p = registers_for p.state (bound_texture s c p)
+
+-- the command is a triangle
+abbrev pub is_triangle : Option Command → Bool
+is_triangle (Some (Triangle t)) = true
+is_triangle (Some (Set setting)) = false
+is_triangle (Some (Clear colour depth)) = false
+is_triangle (Some Swap) = false
+is_triangle (Some Yield) = false
+is_triangle (Some Die) = false
+is_triangle None = false
+
+-- there is a command, and it can be run: all but die, and a triangle only where the card is ready for it
+abbrev pub can_run : Bool → Option Command → Bool
+can_run ready (Some (Triangle t)) = ready
+can_run ready (Some (Set setting)) = true
+can_run ready (Some (Clear colour depth)) = true
+can_run ready (Some Swap) = true
+can_run ready (Some Yield) = true
+can_run ready (Some Die) = false
+can_run ready None = false
+
+-- nothing is dirty, and a texture that a triangle needs is placed
+abbrev pub can_draw : Private → Bool
+can_draw p = is_empty p.dirty && is_ready p
+
+-- the client's state after a command
+abbrev pub state_by : Option Command → State → State
+state_by None old = old
+state_by (Some command) old = state_after command old
+
+-- a placed texture with a region that has the property is lost
+abbrev pub loses : (ℕ → Bool) → Option Run → Bool
+loses f None = false
+loses f (Some run) = any_in run f
+
+-- the client's bound texture is lost, where regions with the property go
+abbrev pub is_bound_lost : Private → (ℕ → Bool) → Bool
+is_bound_lost p f = loses f (run_of p.placed p.state.bound)
+
+-- the placed textures after texture t is put in the run, where the textures of freed regions are lost
+abbrev pub placed_after : (ℕ → Option Run) → (ℕ → Bool) → ℕ → Run → ℕ → Option Run
+placed_after placed freed t run u = if u == t then Some run else lose freed (placed u)

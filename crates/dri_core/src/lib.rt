@@ -1,0 +1,11 @@
+//! The core: worlds, the tables of entries and events, runs, and frames drawn alone. These stand in this crate's
+//! specifications. The functions here do nothing; their contracts are the laws that hold of every run.
+#![tactic(auto)]
+
+mod core_runs;
+mod hold_runs;
+mod later;
+
+pub use core_runs::{core, rounds_end, turns};
+pub use hold_runs::{bounded, central, confined, decided, foreign, frames, own, solo_left};
+pub use later::{lasting, plain_in_range, whole_by_parts};

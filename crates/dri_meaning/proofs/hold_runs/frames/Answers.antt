@@ -1,8 +1,0 @@
-use Rattle.dri_meaning.proofs.FrameNumbers.{is_frame, frame_is}
-use Rattle.dri_meaning.proofs.hold_runs.frames.Goals as goal
-
-pub returns-clause-found : goal.returns-clause-found
-returns-clause-found c = is_frame
-
-pub returns-clause-there : goal.returns-clause-there
-returns-clause-there c = frame_is

@@ -1,5 +1,0 @@
-use Rattle.dri_meaning.proofs.RunLaws as RunLaws
-use Rattle.dri_meaning.proofs.hold_runs.own.Goals as goal
-
-pub returns : goal.returns
-returns c = RunLaws.own
