@@ -1,4 +1,4 @@
-//! Clients in threads, as calls of the top call, with gates that hold one client up until another has come.
+//! Clients in threads, as calls of the top call, with gates that hold clients up until others have come.
 
 ghost use Rattle.std.specs.Prelude.{◌<◌, ◌≤◌};
 
@@ -45,6 +45,34 @@ impl Gate for Meeting {
         }
         if actor == 1 && point == self.point && self.tried.swap(1, Ordering::SeqCst) == 0 {
             self.met.store(comes(&self.came), Ordering::SeqCst);
+        }
+    }
+}
+
+/// Holds each of two clients before its first lock until the other has come there too. So whichever comes first waits for
+/// one that runs beside it.
+#[derive(Drop)]
+struct Rendezvous {
+    first: AtomicU32,
+    second: AtomicU32,
+    met: AtomicU32,
+}
+
+impl Rendezvous {
+    /// Comes, and at its first time waits for the other.
+    fn meet(&self, own: &AtomicU32, other: &AtomicU32) {
+        if own.swap(1, Ordering::SeqCst) == 0 {
+            self.met.fetch_add(comes(other), Ordering::SeqCst);
+        }
+    }
+}
+
+impl Gate for Rendezvous {
+    fn at(&self, actor: u32, point: GatePoint) {
+        match (actor, point) {
+            (1, GatePoint::BeforeLock) => self.meet(&self.first, &self.second),
+            (2, GatePoint::BeforeLock) => self.meet(&self.second, &self.first),
+            _ => {}
         }
     }
 }
@@ -202,6 +230,21 @@ fn clients_meet(rt: HostRuntime) -> Result<(), Fail> {
     // (the server may come first)
     let title = b"journal 1\n".as_slice();
     meets(&rt, alloc, GatePoint::Holding, text, picture, title)
+}
+
+#[test]
+fn each_waits_for_the_other(rt: HostRuntime) -> Result<(), Fail> {
+    let alloc = rt.alloc();
+    let gate = Rendezvous {
+        first: AtomicU32::new(0),
+        second: AtomicU32::new(0),
+        met: AtomicU32::new(0),
+    };
+    let text = bytes_of(alloc, PAIR)?;
+    let begun = b"journal 1\nkernel ".as_slice();
+    runs(&rt, alloc, &gate, text, PAIR_PIXELS, begun)?;
+    assert_eq!(rt; gate.met.load(Ordering::SeqCst), 2);
+    Ok(())
 }
 
 #[test]
