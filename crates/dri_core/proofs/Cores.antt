@@ -1,5 +1,5 @@
 -- The journal of a run is a hold-run.
-use Rattle.std.proofs.Common.{◌≡◌, ◌+◌, ℕ, List, [], ◌∷◌, true, false, Option, Some, None, arith, refl, ◌∙◌, inl, inr}
+use Rattle.std.proofs.Common.{◌≡◌, ◌+◌, ℕ, List, [], ◌∷◌, true, false, Option, Some, None, arith, refl, sym, ◌∙◌, inl, inr}
 use Rattle.std.specs.Prelude.{◌⊎◌}
 use Rattle.std.proofs.lemmas.Bool.Decides.{nat_tests}
 use Rattle.dri_base.specs.declared.journal.Entry.{Entry}
@@ -16,9 +16,10 @@ use Rattle.dri_core.specs.Effects.{run_by}
 use Rattle.dri_core.specs.Runs.{after, HoldRun, LegalEntries, after_entries}
 use Rattle.dri_core.specs.Cores.{Core, entry_of, with_entry, journal_of, opening_core}
 use Rattle.dri_core.specs.EventTable.{LegalEvent, after_event, world_after}
-use Rattle.dri_core.specs.CoreRuns.{after_events, LegalEvents, IsRun}
+use Rattle.dri_core.specs.CoreRuns.{after_events, LegalEvents, IsRun, WordIsCurrent}
 use Rattle.std.proofs.lemmas.Bool.{true≢false}
 use Rattle.dri_core.proofs.Parts.{put_keeps}
+use Rattle.dri_core.proofs.Laws.{light_is_current}
 use Rattle.dri_core.proofs.Sound.{Sound, sound_kept, sound_opened}
 
 -- the word, the holder and the stopped clients belong together
@@ -120,3 +121,11 @@ journal_is_hold_run s events good run = journal_is_legal s (opening_core s) even
 
 pub journal_after : (s : Scene) (events : List Event) → after s (journal_of events) ≡ (after_events s (opening_core s) events).world
 journal_after s events = journal_world s (opening_core s) events
+
+-- who may take the word lightly is current
+pub word_is_current : (s : Scene) (k : Core) → Sound s k.world → Tied s k → WordIsCurrent s k
+word_is_current s k sound tied c free mine out = light_is_current s k.world sound c (nobody s k tied free) (left_by (tied.left free)) out
+  where
+    left_by : (k.word.context ≡ 0) ⊎ (k.word.context ≡ k.world.left) → k.world.left ≡ c + 1
+    left_by (inl none) = absurd (omega (arith, none, mine))
+    left_by (inr left) = sym left ∙ mine

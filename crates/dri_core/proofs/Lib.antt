@@ -6,6 +6,7 @@ pub mod Kept
 pub mod Textures
 pub mod TextureUses
 pub mod Sound
+pub mod Stamps
 pub mod Laws
 pub mod Draws
 pub mod FrameNumbers
@@ -26,6 +27,7 @@ pub mod WorkParts
 pub mod Measures
 pub mod Going
 pub mod Rounds
+pub mod Played
 pub mod RoundsEnd
 pub mod RunLaws
 pub mod AgeBounds

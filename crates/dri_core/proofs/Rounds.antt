@@ -15,6 +15,7 @@ use Rattle.dri_core.specs.EventTable.{LegalEvent, after_event}
 use Rattle.dri_core.specs.Phases.{is_holding, is_done}
 use Rattle.dri_base.proofs.RangeLemmas.{IsWellFormed}
 use Rattle.dri_base.specs.Scenes.{kills_in, is_named}
+use Rattle.dri_core.specs.TurnLaws.{IsScheduled}
 use Rattle.dri_core.specs.Turns.{kill, item_event, one_event, core_after, played, rounds, turns_and_rounds}
 use Rattle.dri_core.proofs.OneTurn.{turns_are_legal}
 use Rattle.dri_core.proofs.Going.{Going, going_start, going_on}
@@ -44,11 +45,7 @@ kill_legal s k c e named h = by_hold (is_holding (k.world.client c).phase) refl
     by_hold true holds = subst (LegalEvent s k) (some_same (Gone c) e (rw holds at h)) (gone holds)
     by_hold false free = by_life free (k.dying c) (is_done (k.world.client c).phase) refl refl
 
--- the kills of the items are the scene's
-abbrev pub Scheduled : Scene → List Item → Type 0
-Scheduled s items = (c : ℕ) → kills_in items c ≡ true → is_named s c ≡ true
-
-pub scheduled_tail : (s : Scene) (item : Item) (items : List Item) → Scheduled s (item ∷ items) → Scheduled s items
+pub scheduled_tail : (s : Scene) (item : Item) (items : List Item) → IsScheduled s (item ∷ items) → IsScheduled s items
 scheduled_tail s (Turn a) items all c e = all c e
 scheduled_tail s (Kill d) items all c e = all c (rw e (or_true (d == c)))
   where
@@ -56,7 +53,7 @@ scheduled_tail s (Kill d) items all c e = all c (rw e (or_true (d == c)))
     or_true true = refl
     or_true false = refl
 
-pub item_legal : (s : Scene) (k : Core) (item : Item) (items : List Item) (e : Event) → IsWellFormed s → Going s k → Scheduled s (item ∷ items) → item_event s k item ≡ Some e → LegalEvent s k e
+pub item_legal : (s : Scene) (k : Core) (item : Item) (items : List Item) (e : Event) → IsWellFormed s → Going s k → IsScheduled s (item ∷ items) → item_event s k item ≡ Some e → LegalEvent s k e
 item_legal s k (Turn a) items e good going all h = turns_are_legal s k good going.known a e h
 item_legal s k (Kill c) items e good going all h = kill_legal s k c e (all c (rw same refl)) h
   where
@@ -64,7 +61,7 @@ item_legal s k (Kill c) items e good going all h = kill_legal s k c e (all c (rw
     same = grind (arith, nat_tests)
 
 -- what the items bring is legal, one after another
-pub played_legal : (s : Scene) (k : Core) (items : List Item) → IsWellFormed s → Going s k → Scheduled s items → LegalEvents s k (played s k items)
+pub played_legal : (s : Scene) (k : Core) (items : List Item) → IsWellFormed s → Going s k → IsScheduled s items → LegalEvents s k (played s k items)
 played_legal s k [] good going all = tt
 played_legal s k (item ∷ items) good going all = by_event (item_event s k item) refl (λ m on. played_legal s m items good on (scheduled_tail s item items all))
   where
@@ -104,7 +101,7 @@ kills_append (Kill d ∷ xs) ys c e = by_name (d == c) refl (kills_append xs ys 
     by_name true n on = inl (rw n refl)
     by_name false n on = elim (on (rw n at e)) [ inl x ↦ inl (rw n x) | inr y ↦ inr y ]
 
-pub scheduled : (s : Scene) (n : ℕ) → Scheduled s (s.turns ++ rounds s n)
+pub scheduled : (s : Scene) (n : ℕ) → IsScheduled s (s.turns ++ rounds s n)
 scheduled s n c e = elim (kills_append s.turns (rounds s n) c e) [ inl x ↦ x | inr y ↦ absurd (true≢false (sym y ∙ no_kills s n c)) ]
 
 pub turns_are_run : (s : Scene) (n : ℕ) → IsWellFormed s → IsRun s (turns_and_rounds s n)

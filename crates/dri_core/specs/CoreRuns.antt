@@ -1,5 +1,5 @@
 -- Runs of the core, and what is said of them.
-use Rattle.std.specs.Prelude.{Bool, List, None, Option, Some, [], true, ℕ, ◌++◌, ◌∷◌, ◌≡◌, ◌≢◌}
+use Rattle.std.specs.Prelude.{Bool, List, None, Option, Some, [], false, true, ℕ, ◌++◌, ◌+◌, ◌∷◌, ◌≡◌, ◌≢◌}
 use Rattle.dri_base.specs.declared.journal.Entry.{Entry}
 use Rattle.dri_base.specs.declared.journal.Event.{Event}
 use Rattle.dri_base.specs.declared.journal.Event.TheVariants.{Run}
@@ -7,7 +7,8 @@ use Rattle.dri_base.specs.declared.scene.Scene.{Scene}
 use Rattle.dri_core.specs.Cores.{Core, entry_of, opening_core}
 use Rattle.dri_core.specs.EventTable.{LegalEvent, after_event}
 use Rattle.dri_core.specs.Frames.{OwnAt, Shows, keeps}
-use Rattle.dri_core.specs.Runs.{SameOutside}
+use Rattle.dri_core.specs.Phases.{Out}
+use Rattle.dri_core.specs.Runs.{IsCurrent, SameOutside}
 use Rattle.dri_base.specs.Scenes.{command_at, commands_of, window_of}
 use Rattle.dri_core.specs.Solo.{frame, is_swap}
 use Rattle.dri_core.specs.Worlds.{World, clips_in}
@@ -29,6 +30,10 @@ IsRun s events = LegalEvents s (opening_core s) events
 -- the world that the events leave
 abbrev pub world_of : Scene → List Event → World
 world_of s events = (after_events s (opening_core s) events).world
+
+-- where the word is unheld and is client c's context and c is out, c is current, so its light lock needs no check
+abbrev pub WordIsCurrent : Scene → Core → Type 0
+WordIsCurrent s k = (c : ℕ) → k.word.held ≡ false → k.word.context ≡ c + 1 → (k.world.client c).phase ≡ Out → IsCurrent s k.world c
 
 -- no command changes a pixel outside its client's clips of that moment
 abbrev pub ConfinedRun : Scene → List Event → Type 0

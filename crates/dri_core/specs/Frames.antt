@@ -1,6 +1,6 @@
 -- Frames, which of them stood, and what they leave.
 use Rattle.std.specs.List.{All}
-use Rattle.std.specs.Prelude.{AllPairs, Bool, Contains, length, List, Some, [], pos, true, ℕ, ℤ, ◌++◌, ◌-ℤ◌, ◌==◌, ◌∷◌, ◌≡◌, ◌≢◌}
+use Rattle.std.specs.Prelude.{AllPairs, Bool, Contains, length, List, Some, [], not, pos, true, ℕ, ℤ, ◌++◌, ◌-ℤ◌, ◌==◌, ◌∷◌, ◌≡◌, ◌≢◌}
 use Rattle.dri_base.specs.Fragments.{fragment, rules_of}
 use Rattle.dri_base.specs.States.{state_at}
 use Rattle.dri_base.specs.declared.command.Command.TheVariants.{Triangle}
@@ -13,11 +13,18 @@ use Rattle.dri_core.specs.Runs.{after, after_entries}
 use Rattle.dri_base.specs.Scenes.{command_at, commands_of, script_of, window_of}
 use Rattle.dri_core.specs.Solo.{frame, image_at, is_swap, solo_frame}
 use Rattle.dri_core.specs.Worlds.{World, clips_in}
-use Rattle.dri_model.specs.Stacks.{origin}
+use Rattle.dri_core.specs.Restacks.{touched_by}
+use Rattle.dri_model.specs.Stacks.{clips, origin}
 
 -- what stands on window n stands after the entry: it gives the window no new stamp
 abbrev pub keeps : Scene → World → Entry → ℕ → Bool
 keeps s w e n = (after_entry s w e).stamps n == w.stamps n
+
+-- an entry leaves the window's stamp exactly where it doesn't touch the window, and then its clips and its origin are as before
+pub record StampTells (s : Scene) (w : World) (e : Entry) (n : ℕ) : Type 0 where
+  pub kept : keeps s w e n ≡ not (touched_by s w (after_entry s w e).stack n)
+  pub same_clips : keeps s w e n ≡ true → (x y : ℕ) → clips s.width s.height (after_entry s w e).stack n x y ≡ clips s.width s.height w.stack n x y
+  pub same_origin : keeps s w e n ≡ true → origin (after_entry s w e).stack n ≡ origin w.stack n
 
 -- each of these entries keeps what stands on window n
 abbrev pub Stands : Scene → ℕ → World → List Entry → Type 0

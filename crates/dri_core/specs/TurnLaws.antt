@@ -1,13 +1,16 @@
 -- What is said of turns.
-use Rattle.std.specs.Prelude.{Bool, List, Some, [], false, true, ℕ, ◌++◌, ◌∷◌, ◌≡◌, ◌⊎◌}
+use Rattle.std.specs.Prelude.{Bool, List, Some, [], false, map, true, ℕ, ◌++◌, ◌∷◌, ◌≡◌, ◌⊎◌}
+use Rattle.dri_base.specs.declared.command.Item.{Item}
+use Rattle.dri_base.specs.declared.command.Item.TheVariants.{Kill, Turn}
 use Rattle.dri_base.specs.declared.journal.Event.{Event}
 use Rattle.dri_base.specs.declared.journal.Event.TheVariants.{Change, Emit, Gone, Info, Kernel, LeaveKernel, LeaveLight, Light, Mark, Place, Queue, Run, Stale, Stop}
 use Rattle.dri_base.specs.declared.scene.Scene.{Scene}
 use Rattle.dri_core.specs.CoreRuns.{after_events}
 use Rattle.dri_core.specs.Cores.{Core, opening_core}
 use Rattle.dri_core.specs.EventTable.{LegalEvent, after_event}
-use Rattle.dri_base.specs.Scenes.{command_at}
-use Rattle.dri_core.specs.Turns.{turn}
+use Rattle.dri_base.specs.Scenes.{command_at, is_named, kills_in}
+use Rattle.dri_core.specs.Phases.{is_holding}
+use Rattle.dri_core.specs.Turns.{kill, played, turn}
 use Rattle.dri_base.specs.declared.command.Command.TheVariants as Command_is
 use Rattle.dri_core.specs.Phases as Phase_is
 
@@ -36,18 +39,13 @@ DiesByTurn s k c = (k.dying c ≡ true) ⊎ (((k.world.client c).phase ≡ Phase
 abbrev pub ByTurn : Scene → Core → Event → Type 0
 ByTurn s k (Stop c) = ⊥
 ByTurn s k (Gone c) = DiesByTurn s k c
-ByTurn s k (Light c) = Unit {0}
-ByTurn s k (Kernel c found) = Unit {0}
-ByTurn s k (Queue a) = Unit {0}
-ByTurn s k (Mark a) = Unit {0}
-ByTurn s k (Stale c) = Unit {0}
-ByTurn s k (Emit c groups) = Unit {0}
-ByTurn s k (Place c t first count) = Unit {0}
-ByTurn s k (Run c i) = Unit {0}
-ByTurn s k (LeaveLight c) = Unit {0}
-ByTurn s k (LeaveKernel c) = Unit {0}
-ByTurn s k (Info c) = Unit {0}
-ByTurn s k (Change i) = Unit {0}
+ByTurn s k _ = Unit {0}
+
+-- the event can come by a kill: a stop, or the death of a client that holds
+abbrev pub ByKill : Core → Event → Type 0
+ByKill k (Stop c) = Unit {0}
+ByKill k (Gone c) = is_holding (k.world.client c).phase ≡ true
+ByKill k _ = ⊥
 
 -- kills aside, an actor's turn makes its one legal event
 abbrev pub OneEvent : Scene → Core → Type 0
@@ -57,6 +55,30 @@ OneEvent s k = (e : Event) → LegalEvent s k e → ByTurn s k e → turn s k (a
 abbrev pub TurnsAreLegal : Scene → Core → Type 0
 TurnsAreLegal s k = (a : ℕ) (e : Event) → turn s k a ≡ Some e → LegalEvent s k e
 
+-- a client's kill makes the one legal event that can come by it
+abbrev pub OneKill : Scene → Core → Type 0
+OneKill s k = (e : Event) → LegalEvent s k e → ByKill k e → kill k (actor_of e) ≡ Some e
+
+-- what the kill of a client makes is legal, where the schedule kills it
+abbrev pub KillsAreLegal : Scene → Core → Type 0
+KillsAreLegal s k = (c : ℕ) (e : Event) → is_named s c ≡ true → kill k c ≡ Some e → LegalEvent s k e
+
+-- whose turn or kill it is
+abbrev pub actor_in : Item → ℕ
+actor_in (Turn a) = a
+actor_in (Kill c) = c
+
+-- the items kill nobody but whom the schedule kills
+abbrev pub IsScheduled : Scene → List Item → Type 0
+IsScheduled s items = (c : ℕ) → kills_in items c ≡ true → is_named s c ≡ true
+
+-- the events are what turns and kills make, one each, of their own actors and in their order
+pub record IsPlayed (s : Scene) (events : List Event) : Type 0 where
+  pub items : List Item
+  pub scheduled : IsScheduled s items
+  pub made : events ≡ played s (opening_core s) items
+  pub actors : map actor_in items ≡ map actor_of events
+
 -- the event takes a word that is unheld
 abbrev pub is_take : Event → Bool
 is_take (Light c) = true
@@ -64,15 +86,7 @@ is_take (Kernel c found) = true
 is_take (Info c) = true
 is_take (Change i) = true
 is_take (Gone c) = true
-is_take (Queue a) = false
-is_take (Mark a) = false
-is_take (Stale c) = false
-is_take (Emit c groups) = false
-is_take (Place c t first count) = false
-is_take (Run c i) = false
-is_take (LeaveLight c) = false
-is_take (LeaveKernel c) = false
-is_take (Stop c) = false
+is_take _ = false
 
 -- none of these events takes the word where it is unheld
 abbrev pub NoTake : Scene → Core → List Event → Type 0

@@ -6,7 +6,7 @@ ghost use Rattle.dri_base.specs.declared.command.Command.{Command};
 ghost use Rattle.dri_base.specs.declared.journal.Entry.{Entry};
 ghost use Rattle.dri_base.specs.declared.scene.Scene.{Scene};
 ghost use Rattle.dri_core.specs.Decide.{is_hold_run};
-ghost use Rattle.dri_core.specs.Frames.{Own, SoloLeft};
+ghost use Rattle.dri_core.specs.Frames.{Own, SoloLeft, StampTells};
 ghost use Rattle.dri_core.specs.Runs.{after, HoldRun, Confined, LightIsCurrent, ActingIsCurrent, OwnerIsClean, Intact, BeginsWith, since, client_of};
 ghost use Rattle.dri_base.specs.Ranges.{InRange, client_numbers};
 ghost use Rattle.dri_base.specs.Scenes.{commands_of};
@@ -28,6 +28,12 @@ pub fn central()
 /// No command changes a pixel outside its client's clips of that moment.
 pub fn confined()
     ensures { (s : Scene) (journal : List Entry) → InRange s → HoldRun s journal → Confined s journal }
+{}
+
+/// An entry leaves a window's stamp exactly where it doesn't touch the window; then the window's clips and its origin are
+/// as before. Window numbers go up to 64.
+pub fn stamped()
+    ensures { (s : Scene) (journal : List Entry) → InRange s → HoldRun s journal → (e : Entry) (n : ℕ) → n ≤ 64 → StampTells s (after s journal) e n }
 {}
 
 /// Each triangle is drawn with its own client's state and texels.

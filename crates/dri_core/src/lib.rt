@@ -7,5 +7,7 @@ mod hold_runs;
 mod later;
 
 pub use core_runs::{core, rounds_end, turns};
-pub use hold_runs::{bounded, central, confined, decided, foreign, frames, own, solo_left};
+pub use hold_runs::{
+    bounded, central, confined, decided, foreign, frames, own, solo_left, stamped,
+};
 pub use later::{lasting, plain_in_range, whole_by_parts};

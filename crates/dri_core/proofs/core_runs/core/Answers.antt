@@ -1,5 +1,5 @@
 use Rattle.dri_core.proofs.Cores.{journal_after}
-use Rattle.dri_core.proofs.RunLaws.{hold_run, confined_events, own_events, solo_left_events}
+use Rattle.dri_core.proofs.RunLaws.{hold_run, confined_events, own_events, solo_left_events, word_current}
 use Rattle.dri_core.proofs.core_runs.core.Goals as goal
 
 pub returns-clause-journal : goal.returns-clause-journal
@@ -7,6 +7,9 @@ returns-clause-journal c = hold_run
 
 pub returns-clause-world : goal.returns-clause-world
 returns-clause-world c = journal_after
+
+pub returns-clause-current : goal.returns-clause-current
+returns-clause-current c = word_current
 
 pub returns-clause-confined : goal.returns-clause-confined
 returns-clause-confined c = confined_events
