@@ -3,3 +3,4 @@ pub mod Gains
 pub mod Layouts
 pub mod Paints
 pub mod Refusals
+pub mod SceneBoards

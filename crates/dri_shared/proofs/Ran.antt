@@ -24,11 +24,11 @@ use Rattle.dri_model.specs.Words.{card_image, rules_in}
 use Rattle.dri_shared.specs.Commands.{is_setting, is_yield}
 use Rattle.dri_shared.specs.Copies.{IsCopyOf, corner}
 use Rattle.dri_shared.specs.Drawing.{OnlyDrawnOn, cleared_in, drawn_in, in_clips, swapped_in, touched_by_use}
-use Rattle.dri_shared.specs.Holdings.{AreRegionsOf, IsCardOf, IsWorld}
+use Rattle.dri_shared.specs.Holdings.{IsCardOf, IsWorld}
 use Rattle.dri_shared.specs.declared.holdings.Holdings.{Holdings}
 use Rattle.dri_shared.proofs.Drawn.{holds_same, holds_shown, shows_same}
 use Rattle.dri_shared.proofs.Places.{places_move}
-use Rattle.dri_texheap.specs.RegionStates.{RegionState, heap_of}
+use Rattle.dri_texheap.specs.RegionStates.{AreRegionsOf, RegionState, heap_of}
 
 -- a command does nothing on the card but what it is for
 module _ (s : Scene) (h : Holdings) (w : World) (c i : ℕ) (is : IsWorld s h w) (below : c < 33) where

@@ -10,12 +10,13 @@ use Rattle.dri_base.specs.declared.command.Change.{Change as ChangeOf}
 use Rattle.dri_base.specs.declared.scene.Window.{Window}
 use Rattle.dri_card.specs.Contents.{Contents, Shows, memory_of}
 use Rattle.dri_clips.specs.Boards.{Screen}
+use Rattle.dri_clips.specs.SceneBoards.{IsBoardOf}
 use Rattle.dri_core.specs.Restacks.{counter_after, front_painted, next_stack, stamps_after}
 use Rattle.dri_model.specs.Stacks.{painted, stack_after, without_owner}
 use Rattle.dri_core.specs.Runs.{after}
 use Rattle.dri_core.specs.Worlds.{World}
 use Rattle.dri_core.proofs.Laws.{after-push, HoldRun-push}
-use Rattle.dri_shared.specs.Holdings.{IsBoardOf, IsCardOf, IsFaithful, IsRestackedOn, IsWorld}
+use Rattle.dri_shared.specs.Holdings.{IsCardOf, IsFaithful, IsRestackedOn, IsWorld}
 use Rattle.dri_shared.specs.declared.holdings.Holdings.{Holdings}
 use Rattle.dri_shared.proofs.Drawn.{holds_shown}
 use Rattle.dri_shared.proofs.Places.{places_stay}

@@ -9,14 +9,14 @@ use Rattle.dri_base.specs.declared.scene.Window.{Window}
 use Rattle.dri_base.specs.declared.state.Registers.{Registers}
 use Rattle.dri_card.specs.Contents.{Contents, HaveSides, Holds, KeepSides, Shows, memory_of}
 use Rattle.dri_card.specs.Drawing.{OnlyShown}
-use Rattle.dri_clips.specs.Boards.{IsRestacked, Screen, stamps_of}
+use Rattle.dri_clips.specs.Boards.{IsRestacked, Screen}
+use Rattle.dri_clips.specs.SceneBoards.{IsBoardOf}
 use Rattle.dri_core.specs.Privates.{Private}
 use Rattle.dri_core.specs.Runs.{HoldRun, after}
 use Rattle.dri_core.specs.Worlds.{World}
-use Rattle.dri_model.specs.Heaps.{Heap}
 use Rattle.dri_model.specs.Stacks.{painted}
 use Rattle.dri_shared.specs.declared.holdings.Holdings.{Holdings}
-use Rattle.dri_texheap.specs.RegionStates.{RegionState, heap_of}
+use Rattle.dri_texheap.specs.RegionStates.{AreRegionsOf}
 
 -- the card has the scene's sides and as much texture memory as all regions together, and holds these
 pub record IsCardOf (s : Scene) (front : ℕ → ℕ → Rgb) (back : ℕ → ℕ → Pixel) (registers : Registers) (memory : ℕ → ℕ) (card : Contents) : Type 0 where
@@ -26,20 +26,6 @@ pub record IsCardOf (s : Scene) (front : ℕ → ℕ → Rgb) (back : ℕ → �
   pub loaded : card.registers ≡ registers
   pub bytes : length card.memory ≡ heap_bytes s
   pub uploads : memory_of card ≡ memory
-
--- the board has the scene's sides and root colour, and this stack with these stamps
-pub record IsBoardOf (s : Scene) (stack : List Window) (stamps : ℕ → ℕ) (counter : ℕ) (board : Screen) : Type 0 where
-  pub width : board.width ≡ s.width
-  pub height : board.height ≡ s.height
-  pub root : board.root ≡ s.root
-  pub windows : board.stack ≡ stack
-  pub given : stamps_of board ≡ stamps
-  pub last : board.counter ≡ counter
-
--- the regions are the scene's, as this heap has them
-pub record AreRegionsOf (s : Scene) (heap : Heap) (regions : RegionState) : Type 0 where
-  pub count : regions.count ≡ s.regions
-  pub ages : heap_of regions ≡ heap
 
 -- by client number, 1 to 32, the place of the client's next command
 pub record ArePlacesOf (client : ℕ → Private) (places : List ℕ) : Type 0 where

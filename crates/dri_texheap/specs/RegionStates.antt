@@ -1,5 +1,6 @@
 -- What contracts see of the texture regions.
 use Rattle.std.specs.Prelude.{◌≡◌, ◌<◌, ◌≤◌, ℕ, List, get_or, Bool, true, false, ◌+◌, ◌&&◌, nat_le, nat_lt}
+use Rattle.dri_base.specs.declared.scene.Scene.{Scene}
 use Rattle.dri_model.specs.Heaps.{Heap, Run, in_run}
 
 -- the number of regions, the global age, and by a region's number whether it is in use, and its age
@@ -36,3 +37,8 @@ pub record IsHeap (s : RegionState) : Type 0 where
   pub aged : (k : ℕ) → (heap_of s).age k ≤ s.global
   pub unused : (k : ℕ) → s.count ≤ k → (heap_of s).used k ≡ false
   pub ageless : (k : ℕ) → s.count ≤ k → (heap_of s).age k ≡ 0
+
+-- the regions are the scene's, as this heap has them
+pub record AreRegionsOf (s : Scene) (heap : Heap) (regions : RegionState) : Type 0 where
+  pub count : regions.count ≡ s.regions
+  pub ages : heap_of regions ≡ heap
