@@ -1,5 +1,5 @@
 -- The journals of the scenes that were worked by hand, and how their ends are read.
-use Rattle.std.specs.Prelude.{ℕ, Bool, List, [], ◌∷◌, ◌++◌, map, take}
+use Rattle.std.specs.Prelude.{ℕ, Bool, List, [], ◌∷◌, ◌++◌, map, take, Option, Some, pos}
 use Rattle.std.specs.List.{range_with_len}
 use Rattle.dri_base.specs.declared.colour.Rgb.{Rgb}
 use Rattle.dri_base.specs.declared.journal.Entry.TheVariants.{Light, Kernel, Stale, Emit, Place, Leave, Info, Change, Run, Gone}
@@ -8,7 +8,12 @@ use Rattle.dri_base.specs.declared.journal.Event.{Event}
 use Rattle.dri_base.specs.declared.scene.Scene.{Scene}
 use Rattle.dri_core.specs.CoreRuns.{after_events}
 use Rattle.dri_core.specs.Cores.{opening_core, word_number}
-use Rattle.dri_core.specs.ExampleParts.{rgb}
+use Rattle.dri_base.specs.declared.command.Command.{Command}
+use Rattle.dri_base.specs.declared.state.DepthFunc.{DepthFunc}
+use Rattle.dri_base.specs.declared.state.Setting.TheVariants as Setting_is
+use Rattle.dri_core.specs.ExampleParts.{rgb, script}
+use Rattle.dri_core.specs.Solo.{solo_frame}
+use Rattle.dri_meaning.specs.ExampleScenes.{two_images, probed}
 use Rattle.dri_meaning.specs.Reports.{tally, is_whole}
 use Rattle.dri_core.specs.Runs.{after}
 
@@ -105,8 +110,8 @@ abbrev pub partly_covered_journal : List Entry
 partly_covered_journal = first_hold 1 1 ++ Run 1 1 ∷ Run 1 2 ∷ Leave 1 ∷ Change 1 ∷ Change 2 ∷ []
 
 -- so many changes
-abbrev pub six_changes : List Entry
-six_changes = Change 1 ∷ Change 2 ∷ Change 3 ∷ Change 4 ∷ Change 5 ∷ Change 6 ∷ []
+abbrev pub seven_changes : List Entry
+seven_changes = Change 1 ∷ Change 2 ∷ Change 3 ∷ Change 4 ∷ Change 5 ∷ Change 6 ∷ Change 7 ∷ []
 
 -- nothing is emitted in the last hold
 abbrev pub taken_again_journal : List Entry
@@ -120,3 +125,27 @@ stopped_journal = first_triangle ++ Run 1 3 ∷ Run 1 4 ∷ Leave 1 ∷ Change 1
 abbrev pub two_regions_journal : List Entry
 two_regions_journal = first_hold 1 1 ++ Run 1 1 ∷ Run 1 2 ∷ Run 1 3 ∷ Place 1 1 0 1 ∷ Emit 1 127 ∷ Run 1 4 ∷ Run 1 5 ∷ Place 1 2 1 1 ∷ Emit 1 32 ∷
     Run 1 6 ∷ Run 1 7 ∷ Emit 1 32 ∷ Run 1 8 ∷ Run 1 9 ∷ Leave 1 ∷ []
+
+-- the first three pixels of a window's row, in the first frame of these commands drawn alone
+abbrev pub alone : List Command → ℕ → List (Option Rgb)
+alone commands row = map (λ x. solo_frame (script 1 two_images commands) 1 (pos x) (pos row)) (range_with_len 0 3)
+
+-- what the clear of these frames leaves
+abbrev pub ground : Option Rgb
+ground = Some (rgb 16 32 48)
+
+-- the colour of the triangle's third corner
+abbrev pub third : Option Rgb
+third = Some (rgb 101 200 250)
+
+-- three pixels of one colour
+abbrev pub all_three : Option Rgb → List (Option Rgb)
+all_three colour = colour ∷ colour ∷ colour ∷ []
+
+-- three greys
+abbrev pub greys : ℕ → ℕ → ℕ → List (Option Rgb)
+greys a b c = Some (grey a) ∷ Some (grey b) ∷ Some (grey c) ∷ []
+
+-- where a depth function lets the triangle be drawn over depth 24: of depth 8, 24 and 40
+abbrev pub where_drawn : DepthFunc → List (Option Rgb)
+where_drawn func = alone (probed (Setting_is.DepthFunc func ∷ [])) 0

@@ -1,5 +1,5 @@
 -- Scenes that were worked by hand.
-use Rattle.std.specs.Prelude.{ℕ, List, [], ◌∷◌, ◌++◌, ℤ, pos, neg_ℤ, true, Some, None, replicate}
+use Rattle.std.specs.Prelude.{ℕ, List, [], ◌∷◌, ◌++◌, ℤ, pos, neg_ℤ, true, Some, None, map, replicate}
 use Rattle.dri_base.specs.declared.colour.Rgb.{Rgb}
 use Rattle.dri_base.specs.declared.colour.Rgba.{Rgba}
 use Rattle.dri_base.specs.declared.command.Change.TheVariants.{Map, Unmap, Move, Resize, Raise, Lower}
@@ -15,8 +15,9 @@ use Rattle.dri_base.specs.declared.shape.Vertex.{Vertex}
 use Rattle.dri_base.specs.declared.state.Blend.TheVariants as Blend_is
 use Rattle.dri_base.specs.declared.state.DepthFunc.TheVariants as Depth_is
 use Rattle.dri_base.specs.declared.state.Setting.TheVariants as Setting_is
+use Rattle.dri_base.specs.declared.state.Setting.{Setting}
 use Rattle.dri_base.specs.declared.state.TexMode.TheVariants as Mode_is
-use Rattle.dri_base.specs.declared.texture.TexFormat.TheVariants.{L8}
+use Rattle.dri_base.specs.declared.texture.TexFormat.TheVariants.{L8, Rgb565}
 use Rattle.dri_base.specs.declared.texture.Texture.{Texture}
 use Rattle.dri_core.specs.ExampleParts.{rgb, rgba, corner, corner_triangle, window, grey_texture, script, scene, turns_of, textured_frame, textured}
 
@@ -111,12 +112,12 @@ partly_covered = scene 3 1
     (script 1 [] (Clear (rgb 0xff 0 0) 65535 ∷ Swap ∷ []) ∷ [])
     (Raise 2 ∷ Lower 2 ∷ []) raised_and_lowered
 
--- windows that are moved, resized, unmapped and mapped; the last change is refused
+-- two windows whose corners aren't 0, each kind of change in its turn, and one that is refused
 abbrev pub moved_about : Scene
-moved_about = scene 4 1
-    (window 1 (pos 1) (pos 0) 1 1 (rgb 0x11 0x11 0x11) 0 ∷ window 2 (pos 0) (pos 0) 2 1 (rgb 0x22 0x22 0x22) 0 ∷ [])
+moved_about = scene 4 3
+    (window 1 (pos 1) (pos 1) 1 1 (rgb 0x11 0x11 0x11) 0 ∷ window 2 (pos 1) (pos 1) 2 2 (rgb 0x22 0x22 0x22) 0 ∷ [])
     []
-    (Move 1 (pos 2) (pos 0) ∷ Resize 1 2 1 ∷ Move 2 (pos 1) (pos 0) ∷ Unmap 2 ∷ Map 2 ∷ Map 2 ∷ []) []
+    (Move 1 (pos 2) (pos 1) ∷ Resize 1 2 1 ∷ Raise 2 ∷ Unmap 2 ∷ Map 2 ∷ Lower 2 ∷ Map 2 ∷ []) []
 
 -- a client that owns two windows is killed
 abbrev pub two_windows : Scene
@@ -181,3 +182,49 @@ one_texel number grey = record { number = number; shape = record { format = L8; 
 abbrev pub two_regions : Scene
 two_regions = record (on_a_row 1 (one_texel 1 0x40 ∷ one_texel 2 0x80 ∷ []) (textured (Clear (rgb 0 0 0) 65535 ∷ deep_triangle 0 (rgba 0 0 0 0xff) ∷
     Set (Setting_is.Bind (Some 2)) ∷ deep_triangle 0 (rgba 0 0 0 0xff) ∷ Set (Setting_is.Bind (Some 1)) ∷ deep_triangle 0 (rgba 0 0 0 0xff) ∷ Swap ∷ []))) { regions = 2 }
+
+-- a texture of two by two greys, and one of one texel with sixteen bits
+abbrev pub two_images : List Texture
+two_images =
+    record { number = 1; shape = record { format = L8; width = 2; height = 2 }; bytes = 10 ∷ 20 ∷ 30 ∷ 40 ∷ [] } ∷
+    record { number = 2; shape = record { format = Rgb565; width = 1; height = 1 }; bytes = 0x4a ∷ 0x9b ∷ [] } ∷ []
+
+-- a red corner at the window's upper left
+abbrev pub red_corner : Vertex
+red_corner = corner 0 0 (rgba 0xff 0 0 0xff)
+
+-- a green one four pixels to the right, with a depth and a column of its own
+abbrev pub green_corner : Vertex
+green_corner = record (corner 64 0 (rgba 0 0xff 0 0xff)) { z = 64; s = 64 }
+
+-- half a blue one four pixels below, with a row of its own
+abbrev pub blue_corner : Vertex
+blue_corner = record (corner 0 64 (rgba 101 200 250 0x80)) { t = 128 }
+
+-- a triangle of three corners that differ in all: along the first row its depths are 8, 24 and 40
+abbrev pub probe : Command
+probe = Triangle (record { a = red_corner; b = green_corner; c = blue_corner })
+
+-- the same, written the other way round
+abbrev pub turned_probe : Command
+turned_probe = Triangle (record { a = red_corner; b = blue_corner; c = green_corner })
+
+-- a frame: a clear of depth 24, then these commands
+abbrev pub on_depth_24 : List Command → List Command
+on_depth_24 commands = Clear (rgb 16 32 48) 24 ∷ commands ++ Swap ∷ []
+
+-- the triangle in the default state with these settings
+abbrev pub probed : List Setting → List Command
+probed settings = on_depth_24 (map Set settings ++ probe ∷ [])
+
+-- a scissor of the first row without its first pixel
+abbrev pub to_the_right : Setting
+to_the_right = Setting_is.Scissor (Some (record { x1 = 1; y1 = 0; x2 = 3; y2 = 1 }))
+
+-- one of the second row's first pixel
+abbrev pub below : Setting
+below = Setting_is.Scissor (Some (record { x1 = 0; y1 = 1; x2 = 1; y2 = 2 }))
+
+-- and a white triangle of depth 24 where it is less deep than what stands there
+abbrev pub then_less_deep : List Setting → List Command
+then_less_deep settings = on_depth_24 (map Set settings ++ probe ∷ Set (Setting_is.DepthFunc Depth_is.Less) ∷ deep_triangle 24 (rgba 0xff 0xff 0xff 0xff) ∷ [])

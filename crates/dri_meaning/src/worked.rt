@@ -4,10 +4,18 @@
 ghost use Rattle.std.specs.Prelude.{◌≡◌, [], ◌∷◌, take, true, false, Some, None, pos};
 ghost use Rattle.std.specs.Prelude.{◌++◌};
 ghost use Rattle.dri_base.specs.declared.journal.Entry.TheVariants.{Gone, Kernel, Leave, Stale, Info, Change, Run, Light};
+ghost use Rattle.dri_base.specs.declared.command.Command.TheVariants.{Set};
+ghost use Rattle.dri_base.specs.declared.state.Blend.TheVariants.{Alpha, Add};
+ghost use Rattle.dri_base.specs.declared.state.DepthFunc.TheVariants.{Never, Less, Equal, LessEqual, Greater, NotEqual, GreaterEqual, Always};
+ghost use Rattle.dri_base.specs.declared.state.Setting.TheVariants.{Shade, Blend, TexMode, Wrap, Bind, Scissor, DepthWrite};
+ghost use Rattle.dri_base.specs.declared.state.Shade.TheVariants.{Smooth};
+ghost use Rattle.dri_base.specs.declared.state.TexMode.TheVariants.{Replace, Modulate};
+ghost use Rattle.dri_base.specs.declared.state.Wrap.TheVariants.{Clamp};
+ghost use Rattle.dri_core.specs.ExampleParts.{rgb};
 ghost use Rattle.dri_core.specs.Decide.{is_hold_run};
 ghost use Rattle.dri_core.specs.Cores.{journal_of};
-ghost use Rattle.dri_meaning.specs.ExampleScenes.{one_triangle, two_frames, under_another, killed_first, dies, covered, beside, waiting_one, killed, one_region, cut_out, blended_twice, partly_covered, moved_about, two_windows, shown_twice, taken_again, stopped_in_the_queue, in_depth, by_default, along_the_row, two_regions};
-ghost use Rattle.dri_meaning.specs.ExampleRuns.{picture, summary, word_after_all, red, green, blue, grey, one_triangle_journal, two_frames_journal, dies_journal, covered_journal, beside_journal, waiting_one_journal, killed_journal, one_region_journal, cut_out_journal, blended_twice_journal, partly_covered_journal, six_changes, taken_again_journal, stopped_journal, first_hold, two_regions_journal};
+ghost use Rattle.dri_meaning.specs.ExampleScenes.{one_triangle, two_frames, under_another, killed_first, dies, covered, beside, waiting_one, killed, one_region, cut_out, blended_twice, partly_covered, moved_about, two_windows, shown_twice, taken_again, stopped_in_the_queue, in_depth, by_default, along_the_row, two_regions, probed, turned_probe, on_depth_24, then_less_deep, to_the_right, below};
+ghost use Rattle.dri_meaning.specs.ExampleRuns.{picture, summary, word_after_all, red, green, blue, grey, one_triangle_journal, two_frames_journal, dies_journal, covered_journal, beside_journal, waiting_one_journal, killed_journal, one_region_journal, cut_out_journal, blended_twice_journal, partly_covered_journal, seven_changes, taken_again_journal, stopped_journal, first_hold, two_regions_journal, alone, ground, third, all_three, greys, where_drawn};
 ghost use Rattle.dri_core.specs.Runs.{after, HoldRun};
 ghost use Rattle.dri_base.specs.Ranges.{InRange};
 ghost use Rattle.dri_base.specs.Scenes.{script_of};
@@ -121,15 +129,16 @@ pub fn covered_in_part()
     ensures uncovered { picture partly_covered partly_covered_journal ≡ (red ∷ grey 0x11 ∷ red ∷ []) ∷ [] }
 {}
 
-/// Each kind of change, and one that is refused.
+/// Each kind of change of a window whose corner isn't 0, and one that is refused.
 pub fn changes_one_by_one()
-    ensures moved { picture moved_about (take 1 six_changes) ≡ (grey 0x22 ∷ grey 0x22 ∷ grey 0x11 ∷ grey 0 ∷ []) ∷ [] }
-    ensures resized { picture moved_about (take 2 six_changes) ≡ (grey 0x22 ∷ grey 0x22 ∷ grey 0x11 ∷ grey 0x11 ∷ []) ∷ [] }
-    ensures under { picture moved_about (take 3 six_changes) ≡ (grey 0 ∷ grey 0x22 ∷ grey 0x11 ∷ grey 0x11 ∷ []) ∷ [] }
-    ensures unmapped { picture moved_about (take 4 six_changes) ≡ (grey 0 ∷ grey 0 ∷ grey 0x11 ∷ grey 0x11 ∷ []) ∷ [] }
-    ensures mapped { picture moved_about (take 5 six_changes) ≡ (grey 0 ∷ grey 0x22 ∷ grey 0x11 ∷ grey 0x11 ∷ []) ∷ [] }
-    ensures refused { (after moved_about six_changes).counter ≡ (after moved_about (take 5 six_changes)).counter }
-    ensures summary { summary moved_about six_changes ≡ (0, 0, true) }
+    ensures moved { picture moved_about (take 1 seven_changes) ≡ (grey 0 ∷ grey 0 ∷ grey 0 ∷ grey 0 ∷ []) ∷ (grey 0 ∷ grey 0x22 ∷ grey 0x11 ∷ grey 0 ∷ []) ∷ (grey 0 ∷ grey 0x22 ∷ grey 0x22 ∷ grey 0 ∷ []) ∷ [] }
+    ensures resized { picture moved_about (take 2 seven_changes) ≡ (grey 0 ∷ grey 0 ∷ grey 0 ∷ grey 0 ∷ []) ∷ (grey 0 ∷ grey 0x22 ∷ grey 0x11 ∷ grey 0x11 ∷ []) ∷ (grey 0 ∷ grey 0x22 ∷ grey 0x22 ∷ grey 0 ∷ []) ∷ [] }
+    ensures raised { picture moved_about (take 3 seven_changes) ≡ (grey 0 ∷ grey 0 ∷ grey 0 ∷ grey 0 ∷ []) ∷ (grey 0 ∷ grey 0x22 ∷ grey 0x22 ∷ grey 0x11 ∷ []) ∷ (grey 0 ∷ grey 0x22 ∷ grey 0x22 ∷ grey 0 ∷ []) ∷ [] }
+    ensures unmapped { picture moved_about (take 4 seven_changes) ≡ (grey 0 ∷ grey 0 ∷ grey 0 ∷ grey 0 ∷ []) ∷ (grey 0 ∷ grey 0 ∷ grey 0x11 ∷ grey 0x11 ∷ []) ∷ (grey 0 ∷ grey 0 ∷ grey 0 ∷ grey 0 ∷ []) ∷ [] }
+    ensures mapped { picture moved_about (take 5 seven_changes) ≡ (grey 0 ∷ grey 0 ∷ grey 0 ∷ grey 0 ∷ []) ∷ (grey 0 ∷ grey 0x22 ∷ grey 0x22 ∷ grey 0x11 ∷ []) ∷ (grey 0 ∷ grey 0x22 ∷ grey 0x22 ∷ grey 0 ∷ []) ∷ [] }
+    ensures lowered { picture moved_about (take 6 seven_changes) ≡ (grey 0 ∷ grey 0 ∷ grey 0 ∷ grey 0 ∷ []) ∷ (grey 0 ∷ grey 0x22 ∷ grey 0x11 ∷ grey 0x11 ∷ []) ∷ (grey 0 ∷ grey 0x22 ∷ grey 0x22 ∷ grey 0 ∷ []) ∷ [] }
+    ensures refused { (after moved_about seven_changes).counter ≡ (after moved_about (take 6 seven_changes)).counter }
+    ensures summary { summary moved_about seven_changes ≡ (0, 0, true) }
 {}
 
 /// A death unmaps each window of its client.
@@ -137,10 +146,11 @@ pub fn death_of_two_windows()
     ensures picture { picture two_windows (Gone 1 ∷ []) ≡ (grey 0 ∷ grey 0 ∷ []) ∷ [] }
 {}
 
-/// A swap leaves back as it is.
+/// A swap leaves back as it is, and a second frame without a clear isn't one that is drawn alone.
 pub fn shown_again()
     ensures picture { picture shown_twice (journal_of (turns_and_rounds shown_twice 17)) ≡ (green ∷ red ∷ []) ∷ [] }
     ensures summary { summary shown_twice (journal_of (turns_and_rounds shown_twice 17)) ≡ (1, 1, true) }
+    ensures alone { solo_frame (script_of shown_twice 1) 2 (pos 0) (pos 0) ≡ None }
 {}
 
 /// Who comes back while the card is its own emits nothing again.
@@ -154,15 +164,24 @@ pub fn stopped()
     ensures journal { journal_of (turns_and_rounds stopped_in_the_queue 10) ≡ stopped_journal }
 {}
 
-/// Entries that no hold-run has.
+/// Entries that no hold-run has: each journal breaks one condition of its last entry.
 pub fn no_hold_runs()
-    ensures own_context { is_hold_run two_frames (take 8 two_frames_journal ++ Kernel 1 2 ∷ []) ≡ false }
+    ensures asking_takes { is_hold_run two_frames (Kernel 1 1 ∷ Stale 1 ∷ Leave 1 ∷ Kernel 1 0 ∷ []) ≡ false }
+    ensures held { is_hold_run waiting_one (Kernel 1 1 ∷ Kernel 2 1 ∷ []) ≡ false }
     ensures other_context { is_hold_run two_frames (Kernel 1 3 ∷ []) ≡ false }
+    ensures own_context { is_hold_run two_frames (take 8 two_frames_journal ++ Kernel 1 2 ∷ []) ≡ false }
     ensures leaves_early { is_hold_run two_frames (first_hold 1 1 ++ Leave 1 ∷ []) ≡ false }
-    ensures unnamed { is_hold_run two_frames (first_hold 1 1 ++ Gone 1 ∷ []) ≡ false }
-    ensures runs_twice { is_hold_run two_frames (take 11 two_frames_journal ++ Run 1 4 ∷ Run 1 4 ∷ []) ≡ false }
+    ensures leaves_untold { is_hold_run two_frames (Kernel 1 1 ∷ Leave 1 ∷ []) ≡ false }
+    ensures not_asking { is_hold_run two_frames (Info 1 ∷ []) ≡ false }
     ensures informed_early { is_hold_run waiting_one (Kernel 2 1 ∷ Stale 2 ∷ Leave 2 ∷ Kernel 1 3 ∷ Info 2 ∷ []) ≡ false }
-    ensures second_change { is_hold_run partly_covered (Change 2 ∷ []) ≡ false }
+    ensures changed_in_a_hold { is_hold_run covered (Kernel 1 1 ∷ Change 1 ∷ []) ≡ false }
+    ensures second_change { is_hold_run covered (Change 2 ∷ []) ≡ false }
+    ensures no_change_left { is_hold_run two_frames (Change 1 ∷ []) ≡ false }
+    ensures unnamed { is_hold_run two_frames (first_hold 1 1 ++ Gone 1 ∷ []) ≡ false }
+    ensures dies_outside { is_hold_run dies (take 8 dies_journal ++ Gone 1 ∷ []) ≡ false }
+    ensures dies_twice { is_hold_run killed (Gone 1 ∷ Gone 1 ∷ []) ≡ false }
+    ensures dies_in_anothers_hold { is_hold_run killed (Kernel 2 1 ∷ Gone 1 ∷ []) ≡ false }
+    ensures runs_twice { is_hold_run two_frames (take 11 two_frames_journal ++ Run 1 4 ∷ Run 1 4 ∷ []) ≡ false }
 {}
 
 /// Depths are compared and written where they are set, and neither in the default state, whose triangles are flat.
@@ -179,4 +198,41 @@ pub fn columns()
 /// What a placing doesn't free stays placed.
 pub fn two_places()
     ensures journal { journal_of (turns_and_rounds two_regions 22) ≡ two_regions_journal }
+    ensures picture { picture two_regions two_regions_journal ≡ (grey 0x40 ∷ []) ∷ [] }
+{}
+
+/// A frame drawn alone in the default state, and with each shade, blend, texture mode, wrap, bound texture and scissor.
+pub fn settings()
+    ensures default { alone (probed []) 0 ≡ all_three third }
+    ensures smooth { alone (probed (Shade Smooth ∷ [])) 0 ≡ Some (rgb 203 56 31) ∷ Some (rgb 140 120 31) ∷ Some (rgb 76 184 31) ∷ [] }
+    ensures turned_smooth { alone (on_depth_24 (Set (Shade Smooth) ∷ turned_probe ∷ [])) 0 ≡ alone (probed (Shade Smooth ∷ [])) 0 }
+    ensures turned_flat { alone (on_depth_24 (turned_probe ∷ [])) 0 ≡ all_three (Some green) }
+    ensures alpha { alone (probed (Blend Alpha ∷ [])) 0 ≡ all_three (Some (rgb 59 116 149)) }
+    ensures add { alone (probed (Blend Add ∷ [])) 0 ≡ all_three (Some (rgb 117 232 255)) }
+    ensures mode_alone { alone (probed (TexMode Replace ∷ [])) 0 ≡ all_three third }
+    ensures bound_alone { alone (probed (Bind (Some 1) ∷ [])) 0 ≡ all_three third }
+    ensures unbound { alone (probed (TexMode Replace ∷ Bind (Some 1) ∷ Bind None ∷ [])) 0 ≡ all_three third }
+    ensures replaced { alone (probed (TexMode Replace ∷ Bind (Some 1) ∷ [])) 0 ≡ greys 30 40 30 }
+    ensures clamped { alone (probed (TexMode Replace ∷ Bind (Some 1) ∷ Wrap Clamp ∷ [])) 0 ≡ greys 30 40 40 }
+    ensures modulated { alone (probed (TexMode Modulate ∷ Bind (Some 1) ∷ [])) 0 ≡ Some (rgb 12 24 29) ∷ Some (rgb 16 31 39) ∷ Some (rgb 12 24 29) ∷ [] }
+    ensures own_alpha { alone (probed (TexMode Replace ∷ Bind (Some 1) ∷ Blend Alpha ∷ [])) 0 ≡ Some (rgb 23 31 39) ∷ Some (rgb 28 36 44) ∷ Some (rgb 23 31 39) ∷ [] }
+    ensures sixteen_bits { alone (probed (TexMode Replace ∷ Bind (Some 2) ∷ [])) 0 ≡ all_three (Some (rgb 156 105 82)) }
+    ensures right_of { (alone (probed (to_the_right ∷ [])) 0 ≡ ground ∷ third ∷ third ∷ []) × (alone (probed (to_the_right ∷ [])) 1 ≡ all_three ground) }
+    ensures below { (alone (probed (below ∷ [])) 0 ≡ all_three ground) × (alone (probed (below ∷ [])) 1 ≡ third ∷ ground ∷ ground ∷ []) }
+    ensures no_scissor { alone (probed (below ∷ Scissor None ∷ [])) 0 ≡ all_three third }
+{}
+
+/// Depths 8, 24 and 40 over depth 24 with each depth function, and which depths a triangle leaves.
+pub fn each_depth()
+    ensures never { where_drawn Never ≡ all_three ground }
+    ensures less { where_drawn Less ≡ third ∷ ground ∷ ground ∷ [] }
+    ensures equal { where_drawn Equal ≡ ground ∷ third ∷ ground ∷ [] }
+    ensures less_equal { where_drawn LessEqual ≡ third ∷ third ∷ ground ∷ [] }
+    ensures greater { where_drawn Greater ≡ ground ∷ ground ∷ third ∷ [] }
+    ensures not_equal { where_drawn NotEqual ≡ third ∷ ground ∷ third ∷ [] }
+    ensures greater_equal { where_drawn GreaterEqual ≡ ground ∷ third ∷ third ∷ [] }
+    ensures always { where_drawn Always ≡ all_three third }
+    ensures not_written { alone (then_less_deep []) 0 ≡ all_three third }
+    ensures written { alone (then_less_deep (DepthWrite true ∷ [])) 0 ≡ third ∷ third ∷ Some (grey 0xff) ∷ [] }
+    ensures no_longer { alone (then_less_deep (DepthWrite true ∷ DepthWrite false ∷ [])) 0 ≡ all_three third }
 {}

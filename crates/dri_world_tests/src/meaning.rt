@@ -9,10 +9,11 @@ use dri_base::{
     Window,
 };
 use dri_meaning::{
-    SoloFault, a_scissor, a_triangle, bounded, central, changed_beside, confined, core, counted,
-    covered_and_uncovered, covered_whole, death, decided, frames, killed_before, killed_in_a_hold,
-    marked, own, rounds_end, solo_left, solo_picture, solo_pixel, turns, two_blends, two_holds,
-    two_textures,
+    SoloFault, a_scissor, a_triangle, bounded, central, changed_beside, changes_one_by_one,
+    columns, confined, core, counted, covered_and_uncovered, covered_in_part, covered_whole, death,
+    death_of_two_windows, decided, depths, each_depth, frames, killed_before, killed_in_a_hold,
+    marked, no_hold_runs, own, own_card, rounds_end, settings, shown_again, solo_left,
+    solo_picture, solo_pixel, stopped, turns, two_blends, two_holds, two_places, two_textures,
 };
 use std::alloc::Global;
 use std::test::Fail;
@@ -46,6 +47,18 @@ fn worked_scenes() {
     two_textures();
     a_scissor();
     two_blends();
+    covered_in_part();
+    changes_one_by_one();
+    death_of_two_windows();
+    shown_again();
+    own_card();
+    stopped();
+    no_hold_runs();
+    depths();
+    columns();
+    two_places();
+    settings();
+    each_depth();
 }
 
 const BLACK: Rgb = Rgb { r: 0, g: 0, b: 0 };
