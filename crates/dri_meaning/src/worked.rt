@@ -202,7 +202,7 @@ pub fn two_places()
 {}
 
 /// A frame drawn alone in the default state, and with each shade, blend, texture mode, wrap, bound texture and scissor.
-pub fn settings()
+pub fn each_setting()
     ensures default { alone (probed []) 0 ≡ all_three third }
     ensures smooth { alone (probed (Shade Smooth ∷ [])) 0 ≡ Some (rgb 203 56 31) ∷ Some (rgb 140 120 31) ∷ Some (rgb 76 184 31) ∷ [] }
     ensures turned_smooth { alone (on_depth_24 (Set (Shade Smooth) ∷ turned_probe ∷ [])) 0 ≡ alone (probed (Shade Smooth ∷ [])) 0 }

@@ -11,8 +11,8 @@ use dri_base::{
 use dri_meaning::{
     SoloFault, a_scissor, a_triangle, bounded, central, changed_beside, changes_one_by_one,
     columns, confined, core, counted, covered_and_uncovered, covered_in_part, covered_whole, death,
-    death_of_two_windows, decided, depths, each_depth, frames, killed_before, killed_in_a_hold,
-    marked, no_hold_runs, own, own_card, rounds_end, settings, shown_again, solo_left,
+    death_of_two_windows, decided, depths, each_depth, each_setting, frames, killed_before,
+    killed_in_a_hold, marked, no_hold_runs, own, own_card, rounds_end, shown_again, solo_left,
     solo_picture, solo_pixel, stopped, turns, two_blends, two_holds, two_places, two_textures,
 };
 use std::alloc::Global;
@@ -57,7 +57,7 @@ fn worked_scenes() {
     depths();
     columns();
     two_places();
-    settings();
+    each_setting();
     each_depth();
 }
 
