@@ -21,7 +21,7 @@ use Rattle.dri_core.specs.Runs.{IsWholeWorld, Whole}
 use Rattle.dri_core.specs.Cores.{Core, opening_core, journal_of, is_next, is_queued}
 use Rattle.dri_core.specs.CoreRuns.{after_events, IsRun}
 use Rattle.dri_core.specs.Phases.{wants_in}
-use Rattle.dri_core.specs.Turns.{turn, turn_of, turn_in, acting_turn, triangle_turn, emit_turn, or_waiting, server_turn, all_pass, round}
+use Rattle.dri_core.specs.Turns.{turn, turn_of, phase_turn, acting_turn, triangle_turn, emit_turn, or_waiting, server_turn, all_pass, round}
 use Rattle.dri_model.specs.Groups.{is_empty, bits}
 use Rattle.dri_model.specs.Heaps as Heaps
 use Rattle.dri_model.specs.Heaps.{lowest_place, classes_for}
@@ -96,23 +96,23 @@ there (c ∷ cs) (suc n) l e = there cs n (omega arith) e
 pub moves : (s : Scene) (k : Core) (c : ℕ) → Known s k → Lively s k.world → (is_holding (k.world.client c).phase ≡ true) ⊎ ((is_done (k.world.client c).phase ≡ false) × (k.word.held ≡ false) × (is_next c k.queue ≡ true)) → turn_of s k c ≡ None → ⊥
 moves s k c known l can stuck = by_stop (k.dying c) refl
   where
-    in_phase : k.dying c ≡ false → (p : Phase) → (k.world.client c).phase ≡ p → (is_holding p ≡ true) ⊎ ((is_done p ≡ false) × (k.word.held ≡ false) × (is_next c k.queue ≡ true)) → (e : Event) × (turn_in s k c p ≡ Some e)
+    in_phase : k.dying c ≡ false → (p : Phase) → (k.world.client c).phase ≡ p → (is_holding p ≡ true) ⊎ ((is_done p ≡ false) × (k.word.held ≡ false) × (is_next c k.queue ≡ true)) → (e : Event) × (phase_turn s k c p ≡ Some e)
     in_phase live Old ph by = (_, refl)
     in_phase live In ph by = acts s k.world c (command_at s c (k.world.client c).place) (there (commands_of s c) (pred (k.world.client c).place) (omega (arith, l.more c (rw ph refl), known.sound.main.started c)))
     in_phase live Over ph by = by_mark k.word.contended refl
       where
-        by_mark : (b : Bool) → k.word.contended ≡ b → (e : Event) × (turn_in s k c Over ≡ Some e)
+        by_mark : (b : Bool) → k.word.contended ≡ b → (e : Event) × (phase_turn s k c Over ≡ Some e)
         by_mark true m = (LeaveKernel c, rw m refl)
         by_mark false m = (LeaveLight c, rw m refl)
     in_phase live Ask ph by = by_mark k.word.contended refl
       where
-        by_mark : (b : Bool) → k.word.contended ≡ b → (e : Event) × (turn_in s k c Ask ≡ Some e)
+        by_mark : (b : Bool) → k.word.contended ≡ b → (e : Event) × (phase_turn s k c Ask ≡ Some e)
         by_mark true m = (LeaveKernel c, rw m refl)
         by_mark false m = (LeaveLight c, rw m refl)
     in_phase live Out ph (inl h) = absurd (true≢false (sym h))
     in_phase live Out ph (inr f) = by_name (not k.word.held && (k.word.context == c + 1)) refl
       where
-        by_name : (b : Bool) → (not k.word.held && (k.word.context == c + 1)) ≡ b → (e : Event) × (turn_in s k c Out ≡ Some e)
+        by_name : (b : Bool) → (not k.word.held && (k.word.context == c + 1)) ≡ b → (e : Event) × (phase_turn s k c Out ≡ Some e)
         by_name true n = (Light c, rw n refl)
         by_name false n = (Kernel c k.word.context, rw n (goes s k c (Kernel c k.word.context) f.1 f.2))
     in_phase live Asking ph (inl h) = absurd (true≢false (sym h))

@@ -109,8 +109,8 @@ mark_turn s k c queued possible = by_wish (queued.wants (suc c) (omega arith) in
     in_queue : is_queued (suc c) k.queue ≡ true
     in_queue = first_queued (suc c) k.queue possible.0
 
-    at_front : is_first (suc c) k.queue ≡ true
-    at_front = first_is (suc c) k.queue possible.0
+    at_first : is_first (suc c) k.queue ≡ true
+    at_first = first_is (suc c) k.queue possible.0
 
     by_wish : (k.dying (suc c) ≡ true) ⊎ (wants_in (k.world.client (suc c)).phase ≡ true) → turn_of s k (suc c) ≡ Some (Mark (suc c))
     by_wish (inl dying) = grind (arith, nat_tests)

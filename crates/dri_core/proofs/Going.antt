@@ -18,7 +18,7 @@ use Rattle.dri_model.specs.Heaps as Heaps
 use Rattle.dri_core.specs.Worlds.{World}
 use Rattle.dri_base.proofs.RangeLemmas.{IsWellFormed}
 use Rattle.dri_base.specs.Scenes.{command_at}
-use Rattle.dri_core.specs.Turns.{turn, turn_in, emit_turn, triangle_turn, acting_turn, waiting, or_waiting}
+use Rattle.dri_core.specs.Turns.{turn, phase_turn, emit_turn, triangle_turn, acting_turn, waiting, or_waiting}
 use Rattle.dri_core.proofs.Aged.{Aged, aged_opened, aged_on}
 use Rattle.dri_core.proofs.Cores.{legal_of}
 use Rattle.dri_core.proofs.Lively.{Lively, lively_opened, lively_on}
@@ -101,7 +101,7 @@ leaves_on k c = by_mark k.word.contended
     by_mark true = refl
     by_mark false = refl
 
-pub goes_on : (s : Scene) (k : Core) (c : ℕ) (p : Phase) → is_stop (turn_in s k c p) ≡ false
+pub goes_on : (s : Scene) (k : Core) (c : ℕ) (p : Phase) → is_stop (phase_turn s k c p) ≡ false
 goes_on s k c Out = by_name (not k.word.held && (k.word.context == c + 1))
   where
     by_name : (b : Bool) → is_stop (if b then Some (Light c) else or_waiting k c (Kernel c k.word.context)) ≡ false
@@ -123,7 +123,7 @@ turn_on s k zero = by_left (nat_lt k.world.made (length s.changes))
     by_left false = refl
 turn_on s k (suc c) = by_life (k.dying (suc c))
   where
-    by_life : (b : Bool) → is_stop (if b then or_waiting k (suc c) (Gone (suc c)) else turn_in s k (suc c) (k.world.client (suc c)).phase) ≡ false
+    by_life : (b : Bool) → is_stop (if b then or_waiting k (suc c) (Gone (suc c)) else phase_turn s k (suc c) (k.world.client (suc c)).phase) ≡ false
     by_life true = or_waits_on k (suc c) (Gone (suc c)) refl
     by_life false = goes_on s k (suc c) (k.world.client (suc c)).phase
 

@@ -4,7 +4,7 @@ use Rattle.std.specs.Prelude.{slice_get, take, pred, ◌&&◌}
 use Rattle.std.proofs.lemmas.Bool.{or_parts, true≢false}
 use Rattle.dri_core.specs.Phases.{Phase}
 use Rattle.dri_base.specs.declared.command.Command.{Command}
-use Rattle.dri_core.specs.Phases.{Out, Old, In, Over, Ask, Asking, Ended, Dead}
+use Rattle.dri_core.specs.Phases.{Out, In, Over, Ended}
 use Rattle.dri_base.specs.declared.scene.Scene.{Scene}
 use Rattle.dri_base.proofs.RangeLemmas.{IsWellFormed}
 use Rattle.dri_base.specs.Scenes.{window_of, commands_of}
@@ -23,12 +23,7 @@ use Rattle.dri_model.proofs.Values.{one_shade, one_flag, one_depth, one_blend, o
 abbrev pub is_acting : Phase → Bool
 is_acting In = true
 is_acting Over = true
-is_acting Old = false
-is_acting Ask = false
-is_acting Out = false
-is_acting Asking = false
-is_acting Ended = false
-is_acting Dead = false
+is_acting _ = false
 
 pub record Invariant (s : Scene) (w : World) : Type 0 where
   -- no stamp is above the counter

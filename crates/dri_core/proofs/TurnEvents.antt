@@ -24,7 +24,7 @@ use Rattle.dri_core.specs.Cores.{Core, opening_core, entry_of, IsNext, IsFirst, 
 use Rattle.dri_core.specs.CoreRuns.{after_events, LegalEvents, IsRun}
 use Rattle.dri_core.specs.EventTable.{LegalEvent, after_event}
 use Rattle.dri_core.specs.Phases.{wants_in}
-use Rattle.dri_core.specs.Turns.{turn_of, turn_in, acting_turn, triangle_turn, emit_turn, or_waiting, waiting}
+use Rattle.dri_core.specs.Turns.{turn_of, phase_turn, acting_turn, triangle_turn, emit_turn, or_waiting, waiting}
 use Rattle.dri_core.specs.Cores.{is_first}
 use Rattle.dri_core.proofs.Queues.{Queued, queued_step}
 
@@ -91,29 +91,29 @@ acting_is_legal s k c e good phase (Some Command_is.Swap) is h = subst (LegalEve
 acting_is_legal s k c e good phase (Some Command_is.Yield) is h = subst (LegalEvent s k) (some_is h) (phase, refl, rw is refl)
 acting_is_legal s k c e good phase None is h = absurd (none_is h)
 
-pub turn_in_is_legal : (s : Scene) (k : Core) (c : ℕ) (e : Event) → IsWellFormed s → k.dying (suc c) ≡ false → (p : Phase) → (k.world.client (suc c)).phase ≡ p → turn_in s k (suc c) p ≡ Some e → LegalEvent s k e
-turn_in_is_legal s k c e good live Phase_is.Out phase h = by_name (not k.word.held && (k.word.context == suc c + 1)) refl
+pub phase_turn_is_legal : (s : Scene) (k : Core) (c : ℕ) (e : Event) → IsWellFormed s → k.dying (suc c) ≡ false → (p : Phase) → (k.world.client (suc c)).phase ≡ p → phase_turn s k (suc c) p ≡ Some e → LegalEvent s k e
+phase_turn_is_legal s k c e good live Phase_is.Out phase h = by_name (not k.word.held && (k.word.context == suc c + 1)) refl
   where
     by_name : (b : Bool) → (not k.word.held && (k.word.context == suc c + 1)) ≡ b → LegalEvent s k e
     by_name true n = subst (LegalEvent s k) (some_is (rw n at h)) (live, phase, grind (arith, nat_tests), grind (arith, nat_tests))
     by_name false n = or_is_legal s k (suc c) (Kernel (suc c) k.word.context) e
         (λ free next. (live, phase, free, refl, grind (arith, nat_tests), next)) (inr (rw phase refl)) (λ en eh. rw (eh, en, live, phase) (grind (arith, nat_tests))) (rw n at h)
-turn_in_is_legal s k c e good live Phase_is.Old phase h = subst (LegalEvent s k) (some_is h) phase
-turn_in_is_legal s k c e good live Phase_is.In phase h = acting_is_legal s k (suc c) e good phase (command_at s (suc c) (k.world.client (suc c)).place) refl h
-turn_in_is_legal s k c e good live Phase_is.Over phase h = by_mark k.word.contended refl
+phase_turn_is_legal s k c e good live Phase_is.Old phase h = subst (LegalEvent s k) (some_is h) phase
+phase_turn_is_legal s k c e good live Phase_is.In phase h = acting_is_legal s k (suc c) e good phase (command_at s (suc c) (k.world.client (suc c)).place) refl h
+phase_turn_is_legal s k c e good live Phase_is.Over phase h = by_mark k.word.contended refl
   where
     by_mark : (b : Bool) → k.word.contended ≡ b → LegalEvent s k e
     by_mark true m = subst (LegalEvent s k) (some_is (rw m at h)) (inl phase, m)
     by_mark false m = subst (LegalEvent s k) (some_is (rw m at h)) (inl phase, m)
-turn_in_is_legal s k c e good live Phase_is.Ask phase h = by_mark k.word.contended refl
+phase_turn_is_legal s k c e good live Phase_is.Ask phase h = by_mark k.word.contended refl
   where
     by_mark : (b : Bool) → k.word.contended ≡ b → LegalEvent s k e
     by_mark true m = subst (LegalEvent s k) (some_is (rw m at h)) (inr phase, m)
     by_mark false m = subst (LegalEvent s k) (some_is (rw m at h)) (inr phase, m)
-turn_in_is_legal s k c e good live Phase_is.Asking phase h =
+phase_turn_is_legal s k c e good live Phase_is.Asking phase h =
     or_is_legal s k (suc c) (Info (suc c)) e (λ free next. (live, phase, free, next)) (inr (rw phase refl)) (λ en eh. rw (eh, en, live, phase) refl) h
-turn_in_is_legal s k c e good live Phase_is.Ended phase h = absurd (none_is h)
-turn_in_is_legal s k c e good live Phase_is.Dead phase h = absurd (none_is h)
+phase_turn_is_legal s k c e good live Phase_is.Ended phase h = absurd (none_is h)
+phase_turn_is_legal s k c e good live Phase_is.Dead phase h = absurd (none_is h)
 
 -- what a turn brings is possible
 pub turn_is_legal : (s : Scene) (k : Core) (c : ℕ) (e : Event) → IsWellFormed s → turn_of s k (suc c) ≡ Some e → LegalEvent s k e
@@ -121,7 +121,7 @@ turn_is_legal s k c e good h = by_stop (k.dying (suc c)) refl
   where
     by_stop : (b : Bool) → k.dying (suc c) ≡ b → LegalEvent s k e
     by_stop true st = or_is_legal s k (suc c) (Gone (suc c)) e (λ free next. inr (st, free, next)) (inl st) (λ en eh. rw (eh, en, st) refl) (rw st at h)
-    by_stop false st = turn_in_is_legal s k c e good st (k.world.client (suc c)).phase refl (rw st at h)
+    by_stop false st = phase_turn_is_legal s k c e good st (k.world.client (suc c)).phase refl (rw st at h)
 
 -- all that is known of a core along its runs
 pub record Known (s : Scene) (k : Core) : Type 0 where

@@ -1,7 +1,7 @@
 -- The table of entries as a test.
-use Rattle.std.specs.Prelude.{Bool, List, None, Option, Some, [], false, is_none, length, nat_le, not, true, ◌&&◌, ◌+◌, ◌==◌, ◌||◌, ◌∷◌}
+use Rattle.std.specs.Prelude.{Bool, List, Option, Some, [], false, is_none, length, nat_le, not, true, ◌&&◌, ◌+◌, ◌==◌, ◌||◌, ◌∷◌}
 use Rattle.dri_base.specs.declared.command.Command.{Command}
-use Rattle.dri_base.specs.declared.command.Command.TheVariants.{Clear, Die, Set, Swap, Triangle, Yield}
+use Rattle.dri_base.specs.declared.command.Command.TheVariants.{Die}
 use Rattle.dri_base.specs.declared.journal.Entry.{Entry}
 use Rattle.dri_base.specs.declared.scene.Scene.{Scene}
 use Rattle.dri_core.specs.EntryTable.{after_entry}
@@ -16,12 +16,7 @@ use Rattle.dri_base.specs.declared.journal.Entry.TheVariants as Entry_is
 -- the command is die
 abbrev pub is_die : Option Command → Bool
 is_die (Some Die) = true
-is_die (Some (Set setting)) = false
-is_die (Some (Clear colour depth)) = false
-is_die (Some (Triangle t)) = false
-is_die (Some Swap) = false
-is_die (Some Yield) = false
-is_die None = false
+is_die _ = false
 
 -- where an entry is legal, as a test
 abbrev pub is_legal_entry : Scene → World → Entry → Bool

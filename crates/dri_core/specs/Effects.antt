@@ -1,9 +1,9 @@
 -- What the entries of a client do to its private part, to the planes and to the heap.
-use Rattle.std.specs.Prelude.{Bool, None, Option, Some, false, if◌then◌else◌, length, nat_lt, not, pos, pred, true, ℕ, ◌+◌, ◌-ℤ◌, ◌==◌}
+use Rattle.std.specs.Prelude.{Bool, None, Option, Some, false, if◌then◌else◌, is_none, length, nat_lt, not, pos, pred, true, ℕ, ◌+◌, ◌-ℤ◌, ◌==◌}
 use Rattle.dri_base.specs.declared.colour.Pixel.{Pixel}
 use Rattle.dri_base.specs.declared.colour.Rgb.{Rgb}
 use Rattle.dri_base.specs.declared.command.Command.{Command}
-use Rattle.dri_base.specs.declared.command.Command.TheVariants.{Clear, Die, Set, Swap, Triangle, Yield}
+use Rattle.dri_base.specs.declared.command.Command.TheVariants.{Swap, Triangle}
 use Rattle.dri_base.specs.declared.scene.Scene.{Scene}
 use Rattle.dri_core.specs.Phases.{In, Old, Out, Phase, left_from, phase_after}
 use Rattle.dri_core.specs.Privates.{Private, is_bound_lost, placed_after, state_by, used_run}
@@ -26,12 +26,7 @@ after_leave s c p = left_from p.phase (is_last s c (pred p.place))
 -- front after a command: a swap copies back's colours in the client's copy of its clips
 abbrev pub front_after : World → (ℕ → ℕ → Bool) → Option Command → ℕ → ℕ → Rgb
 front_after w copy (Some Swap) x y = if copy x y then (w.back x y).colour else w.front x y
-front_after w copy (Some (Clear colour depth)) x y = w.front x y
-front_after w copy (Some (Set setting)) x y = w.front x y
-front_after w copy (Some (Triangle t)) x y = w.front x y
-front_after w copy (Some Yield) x y = w.front x y
-front_after w copy (Some Die) x y = w.front x y
-front_after w copy None x y = w.front x y
+front_after w copy _ x y = w.front x y
 
 -- a pixel, drawn where it is so
 abbrev pub only_where : Bool → (Pixel → Pixel) → Pixel → Pixel
@@ -43,27 +38,20 @@ abbrev pub back_after : World → Private → Option Command → ℕ → ℕ →
 back_after w p command x y =
     only_where (p.copy x y) (drawn_by (rules_in w.registers) (card_image w.memory w.registers.bound) command (pos x -ℤ p.origin.0) (pos y -ℤ p.origin.1)) (w.back x y)
 
+-- the regions after a run is touched, where there is one
+abbrev pub touched_if : Option Run → Heap → Heap
+touched_if None h = h
+touched_if (Some run) h = touched run h
+
 -- the regions after a command: a triangle touches the run of the texture that it needs
 abbrev pub heap_after : Heap → Option Run → Option Command → Heap
-heap_after h (Some run) (Some (Triangle t)) = touched run h
-heap_after h None (Some (Triangle t)) = h
-heap_after h run (Some (Set setting)) = h
-heap_after h run (Some (Clear colour depth)) = h
-heap_after h run (Some Swap) = h
-heap_after h run (Some Yield) = h
-heap_after h run (Some Die) = h
-heap_after h run None = h
+heap_after h run (Some (Triangle t)) = touched_if run h
+heap_after h run _ = h
 
 -- the client's local age after a command: that of the touch, where there is one
 abbrev pub local_after : ℕ → Heap → Option Run → Option Command → ℕ
-local_after local h (Some run) (Some (Triangle t)) = (touched run h).global
-local_after local h None (Some (Triangle t)) = local
-local_after local h run (Some (Set setting)) = local
-local_after local h run (Some (Clear colour depth)) = local
-local_after local h run (Some Swap) = local
-local_after local h run (Some Yield) = local
-local_after local h run (Some Die) = local
-local_after local h run None = local
+local_after local h run (Some (Triangle t)) = if is_none run then local else (touched_if run h).global
+local_after local h run _ = local
 
 -- so many neighbouring regions from a first one on
 abbrev pub run_at : ℕ → ℕ → Run

@@ -38,18 +38,13 @@ LegalEvent s k (Gone c) =
 abbrev pub word_after : Word → Event → Word
 word_after w (Light c) = record { held = true; contended = false; context = c + 1 }
 word_after w (Kernel c found) = record { held = true; contended = false; context = c + 1 }
-word_after w (Queue a) = w
 word_after w (Mark a) = record w { contended = true }
-word_after w (Stale c) = w
-word_after w (Emit c groups) = w
-word_after w (Place c t first count) = w
-word_after w (Run c i) = w
 word_after w (LeaveLight c) = record { held = false; contended = false; context = c + 1 }
 word_after w (LeaveKernel c) = record { held = false; contended = false; context = 0 }
 word_after w (Info c) = record { held = false; contended = false; context = 1 }
 word_after w (Change i) = record { held = false; contended = false; context = 1 }
-word_after w (Stop c) = w
 word_after w (Gone c) = record { held = false; contended = false; context = 0 }
+word_after w _ = w
 
 -- the queue without an actor
 abbrev pub leaves : ℕ → List ℕ → List ℕ
@@ -57,37 +52,19 @@ leaves a queue = filter (λ b. not (b == a)) queue
 
 -- the queue after the event
 abbrev pub queue_after : List ℕ → Event → List ℕ
-queue_after q (Light c) = q
-queue_after q (Kernel c found) = leaves c q
 queue_after q (Queue a) = q ++ a ∷ []
-queue_after q (Mark a) = q
-queue_after q (Stale c) = q
-queue_after q (Emit c groups) = q
-queue_after q (Place c t first count) = q
-queue_after q (Run c i) = q
-queue_after q (LeaveLight c) = q
-queue_after q (LeaveKernel c) = q
+queue_after q (Kernel c found) = leaves c q
 queue_after q (Info c) = leaves c q
 queue_after q (Change i) = leaves 0 q
 queue_after q (Stop c) = leaves c q
 queue_after q (Gone c) = leaves c q
+queue_after q _ = q
 
 -- the dying clients after the event
 abbrev pub dying_after : (ℕ → Bool) → Event → ℕ → Bool
 dying_after f (Stop c) d = (d == c) || f d
 dying_after f (Gone c) d = not (d == c) && f d
-dying_after f (Light c) d = f d
-dying_after f (Kernel c found) d = f d
-dying_after f (Queue a) d = f d
-dying_after f (Mark a) d = f d
-dying_after f (Stale c) d = f d
-dying_after f (Emit c groups) d = f d
-dying_after f (Place c t first count) d = f d
-dying_after f (Run c i) d = f d
-dying_after f (LeaveLight c) d = f d
-dying_after f (LeaveKernel c) d = f d
-dying_after f (Info c) d = f d
-dying_after f (Change i) d = f d
+dying_after f _ d = f d
 
 -- the world after an entry, where there is one
 abbrev pub world_after : Scene → World → Option Entry → World

@@ -6,7 +6,7 @@ use Rattle.dri_base.specs.declared.scene.Scene.{Scene}
 use Rattle.dri_core.specs.Cores.{Core, opening_core, is_queued}
 use Rattle.dri_core.specs.CoreRuns.{after_events}
 use Rattle.dri_core.specs.EventTable.{after_event}
-use Rattle.dri_core.specs.Phases.{Phase, Out, Old, In, Over, Ask, Asking, Ended, Dead, is_done, wants_in}
+use Rattle.dri_core.specs.Phases.{Phase, Out, Old, Over, Ask, is_done, wants_in}
 use Rattle.dri_core.specs.Privates.{is_ready}
 use Rattle.dri_base.specs.Ranges.{client_numbers}
 use Rattle.dri_base.specs.Scenes.{commands_of, window_of}
@@ -23,12 +23,9 @@ one_if false = 0
 abbrev pub phase_left : Phase → ℕ
 phase_left Out = 12
 phase_left Old = 5
-phase_left In = 0
 phase_left Over = 15
 phase_left Ask = 3
-phase_left Asking = 0
-phase_left Ended = 0
-phase_left Dead = 0
+phase_left _ = 0
 
 -- what a client in a phase has left, of so many commands: its stamp may be stale, its texture may be missing, its groups dirty, and it may have to wait; death is worth a new stamp and a wait for each of n clients
 abbrev pub part_left : ℕ → ℕ → Phase → Bool → Bool → Bool → Bool → ℕ

@@ -33,21 +33,13 @@ is_holding Old = true
 is_holding In = true
 is_holding Over = true
 is_holding Ask = true
-is_holding Out = false
-is_holding Asking = false
-is_holding Ended = false
-is_holding Dead = false
+is_holding _ = false
 
 -- the client has ended or is dead
 abbrev pub is_done : Phase → Bool
 is_done Ended = true
 is_done Dead = true
-is_done Old = false
-is_done In = false
-is_done Over = false
-is_done Ask = false
-is_done Out = false
-is_done Asking = false
+is_done _ = false
 
 -- the phase after a leave: from ask it is asking; else out, or ended where no command is left
 abbrev pub left_from : Phase → Bool → Phase
@@ -66,23 +58,12 @@ phase_after _ false = In
 abbrev pub wants_in : Phase → Bool
 wants_in Out = true
 wants_in Asking = true
-wants_in Old = false
-wants_in In = false
-wants_in Over = false
-wants_in Ask = false
-wants_in Ended = false
-wants_in Dead = false
+wants_in _ = false
 
 -- the client may take the word, where it is unheld
 abbrev pub is_out : Phase → Bool
 is_out Out = true
-is_out Asking = false
-is_out Old = false
-is_out In = false
-is_out Over = false
-is_out Ask = false
-is_out Ended = false
-is_out Dead = false
+is_out _ = false
 
 -- a number for each phase
 abbrev pub phase_code : Phase → ℕ

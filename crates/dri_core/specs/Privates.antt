@@ -3,7 +3,7 @@ use Rattle.std.specs.Prelude.{Bool, List, None, Option, Some, false, if◌then�
 use Rattle.dri_base.specs.States.{default_state, state_after}
 use Rattle.dri_base.specs.Texels.{texture_bound}
 use Rattle.dri_base.specs.declared.command.Command.{Command}
-use Rattle.dri_base.specs.declared.command.Command.TheVariants.{Clear, Die, Set, Swap, Triangle, Yield}
+use Rattle.dri_base.specs.declared.command.Command.TheVariants.{Die, Triangle}
 use Rattle.dri_base.specs.declared.scene.Scene.{Scene}
 use Rattle.dri_base.specs.declared.state.Registers.{Registers}
 use Rattle.dri_base.specs.declared.state.State.{State}
@@ -54,8 +54,7 @@ opening_part cs = record {
 -- the texture that a triangle needs: the bound one, where the mode isn't off
 abbrev pub texture_used : TexMode → Option ℕ → Option ℕ
 texture_used Mode_is.Off bound = None
-texture_used Mode_is.Replace bound = bound
-texture_used Mode_is.Modulate bound = bound
+texture_used _ bound = bound
 
 -- the texture that the state is textured with
 abbrev pub textured_with : State → Option ℕ
@@ -96,22 +95,14 @@ own_registers s c p = registers_for p.state (bound_texture s c p)
 -- the command is a triangle
 abbrev pub is_triangle : Option Command → Bool
 is_triangle (Some (Triangle t)) = true
-is_triangle (Some (Set setting)) = false
-is_triangle (Some (Clear colour depth)) = false
-is_triangle (Some Swap) = false
-is_triangle (Some Yield) = false
-is_triangle (Some Die) = false
-is_triangle None = false
+is_triangle _ = false
 
 -- there is a command, and it can be run: all but die, and a triangle only where the card is ready for it
 abbrev pub can_run : Bool → Option Command → Bool
-can_run ready (Some (Triangle t)) = ready
-can_run ready (Some (Set setting)) = true
-can_run ready (Some (Clear colour depth)) = true
-can_run ready (Some Swap) = true
-can_run ready (Some Yield) = true
-can_run ready (Some Die) = false
 can_run ready None = false
+can_run ready (Some Die) = false
+can_run ready (Some (Triangle t)) = ready
+can_run ready (Some _) = true
 
 -- nothing is dirty, and a texture that a triangle needs is placed
 abbrev pub can_draw : Private → Bool

@@ -1,5 +1,5 @@
 -- Hold-runs, and what is said of them.
-use Rattle.std.specs.Prelude.{drop, Bool, List, None, Some, [], false, filter, get_or, length, true, ℕ, ◌++◌, ◌+◌, ◌<◌, ◌==◌, ◌∷◌, ◌≡◌, ◌≤◌, ◌⊎◌}
+use Rattle.std.specs.Prelude.{drop, Bool, List, None, Some, [], false, get_or, length, true, ℕ, ◌++◌, ◌+◌, ◌<◌, ◌∷◌, ◌≡◌, ◌≤◌, ◌⊎◌}
 use Rattle.dri_base.specs.Texels.{texture_in}
 use Rattle.dri_base.specs.declared.journal.Entry.{Entry}
 use Rattle.dri_base.specs.declared.journal.Entry.TheVariants.{Run}
@@ -137,10 +137,6 @@ since seen now = drop (length seen) now
 -- the journal begins with the entries that were seen
 abbrev pub BeginsWith : List Entry → List Entry → Type 0
 BeginsWith now seen = now ≡ seen ++ since seen now
-
--- the entries that belong to a context, in order
-abbrev pub mine : List Entry → ℕ → List Entry
-mine journal x = filter (λ e. context_of e == x) journal
 
 -- the scene without its schedule
 abbrev pub plain : Scene → Scene

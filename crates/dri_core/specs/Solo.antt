@@ -2,7 +2,7 @@
 use Rattle.std.specs.Prelude.{◌≡◌, ◌<◌, Bool, true, false, ℕ, zero, suc, ◌+◌, ◌-◌, List, [], ◌∷◌, slice_get, pred, ◌==◌, if◌then◌else◌, Option, Some, None, ℤ}
 use Rattle.dri_base.specs.declared.colour.Rgb.{Rgb}
 use Rattle.dri_base.specs.declared.command.Command.{Command}
-use Rattle.dri_base.specs.declared.command.Command.TheVariants.{Set, Clear, Triangle, Swap, Yield, Die}
+use Rattle.dri_base.specs.declared.command.Command.TheVariants.{Clear, Triangle, Swap}
 use Rattle.dri_base.specs.declared.scene.ClientScript.{ClientScript}
 use Rattle.dri_base.specs.States.{state_at}
 use Rattle.dri_base.specs.Texels.{Image, own_image}
@@ -18,11 +18,7 @@ blank = record { colour = record { r = 0; g = 0; b = 0 }; depth = 65535 }
 abbrev pub drawn_by : Rules → Option Image → Option Command → ℤ → ℤ → Pixel → Pixel
 drawn_by r image (Some (Clear colour depth)) x y under = record { colour = colour; depth = depth }
 drawn_by r image (Some (Triangle t)) x y under = fragment r image t x y under
-drawn_by r image (Some (Set setting)) x y under = under
-drawn_by r image (Some Swap) x y under = under
-drawn_by r image (Some Yield) x y under = under
-drawn_by r image (Some Die) x y under = under
-drawn_by r image None x y under = under
+drawn_by r image _ x y under = under
 
 -- the image that the script's state binds at place i
 abbrev pub image_at : ClientScript → ℕ → Option Image
@@ -40,22 +36,12 @@ solo p first (suc n) x y = drawn_at p (first + suc n) x y (solo p first n x y)
 -- the command is a clear
 abbrev pub is_clear : Option Command → Bool
 is_clear (Some (Clear colour depth)) = true
-is_clear (Some (Set setting)) = false
-is_clear (Some (Triangle t)) = false
-is_clear (Some Swap) = false
-is_clear (Some Yield) = false
-is_clear (Some Die) = false
-is_clear None = false
+is_clear _ = false
 
 -- the command is a swap
 abbrev pub is_swap : Option Command → Bool
 is_swap (Some Swap) = true
-is_swap (Some (Clear colour depth)) = false
-is_swap (Some (Set setting)) = false
-is_swap (Some (Triangle t)) = false
-is_swap (Some Yield) = false
-is_swap (Some Die) = false
-is_swap None = false
+is_swap _ = false
 
 -- how many swaps stand before a place
 abbrev pub swaps_before : List Command → ℕ → ℕ
@@ -80,10 +66,7 @@ abbrev pub frame_from : List Command → ℕ → Option ℕ → ℕ → Option (
 frame_from [] place clear k = None
 frame_from (Swap ∷ cs) place clear k = if k == 1 then with_swap clear place else frame_from cs (place + 1) None (pred k)
 frame_from (Clear colour depth ∷ cs) place clear k = frame_from cs (place + 1) (Some place) k
-frame_from (Triangle t ∷ cs) place clear k = frame_from cs (place + 1) clear k
-frame_from (Set setting ∷ cs) place clear k = frame_from cs (place + 1) clear k
-frame_from (Yield ∷ cs) place clear k = frame_from cs (place + 1) clear k
-frame_from (Die ∷ cs) place clear k = frame_from cs (place + 1) clear k
+frame_from (_ ∷ cs) place clear k = frame_from cs (place + 1) clear k
 
 -- the places, counted from 1, of the last clear and of the swap of frame k, where the frame exists and begins with a clear
 abbrev pub frame : List Command → ℕ → Option (ℕ × ℕ)

@@ -18,7 +18,7 @@ use Rattle.dri_model.specs.Heaps.{classes_for, lowest_place}
 use Rattle.dri_base.specs.declared.command.Command.TheVariants as Command_is
 use Rattle.dri_core.specs.Phases as Phase_is
 
--- who can't go on joins the queue; who waits at its front marks the word
+-- who can't go on joins the queue; who waits as the first in it marks the word
 abbrev pub waiting : Core → ℕ → Option Event
 waiting k a =
     if is_queued a k.queue then (if is_first a k.queue && (k.word.held && not k.word.contended) then Some (Mark a) else None)
@@ -42,29 +42,25 @@ triangle_turn s w c None = emit_turn (w.client c) c
 
 -- who is in runs its next command, or makes ready for it, or dies
 abbrev pub acting_turn : Scene → World → ℕ → Option Command → Option Event
+acting_turn s w c None = None
 acting_turn s w c (Some Command_is.Die) = Some (Gone c)
 acting_turn s w c (Some (Command_is.Triangle t)) = triangle_turn s w c (textured_with (w.client c).state)
-acting_turn s w c (Some (Command_is.Set setting)) = Some (Run c (w.client c).place)
-acting_turn s w c (Some (Command_is.Clear colour depth)) = Some (Run c (w.client c).place)
-acting_turn s w c (Some Command_is.Swap) = Some (Run c (w.client c).place)
-acting_turn s w c (Some Command_is.Yield) = Some (Run c (w.client c).place)
-acting_turn s w c None = None
+acting_turn s w c (Some _) = Some (Run c (w.client c).place)
 
 -- the event that a client makes in each phase
-abbrev pub turn_in : Scene → Core → ℕ → Phase → Option Event
-turn_in s k c Phase_is.Out =
+abbrev pub phase_turn : Scene → Core → ℕ → Phase → Option Event
+phase_turn s k c Phase_is.Out =
     if not k.word.held && (k.word.context == c + 1) then Some (Light c) else or_waiting k c (Kernel c k.word.context)
-turn_in s k c Phase_is.Old = Some (Stale c)
-turn_in s k c Phase_is.In = acting_turn s k.world c (command_at s c (k.world.client c).place)
-turn_in s k c Phase_is.Over = if k.word.contended then Some (LeaveKernel c) else Some (LeaveLight c)
-turn_in s k c Phase_is.Ask = if k.word.contended then Some (LeaveKernel c) else Some (LeaveLight c)
-turn_in s k c Phase_is.Asking = or_waiting k c (Info c)
-turn_in s k c Phase_is.Ended = None
-turn_in s k c Phase_is.Dead = None
+phase_turn s k c Phase_is.Old = Some (Stale c)
+phase_turn s k c Phase_is.In = acting_turn s k.world c (command_at s c (k.world.client c).place)
+phase_turn s k c Phase_is.Over = if k.word.contended then Some (LeaveKernel c) else Some (LeaveLight c)
+phase_turn s k c Phase_is.Ask = if k.word.contended then Some (LeaveKernel c) else Some (LeaveLight c)
+phase_turn s k c Phase_is.Asking = or_waiting k c (Info c)
+phase_turn s k c _ = None
 
 -- the one event that client c makes at its turn, kills aside
 abbrev pub turn_of : Scene → Core → ℕ → Option Event
-turn_of s k c = if k.dying c then or_waiting k c (Gone c) else turn_in s k c (k.world.client c).phase
+turn_of s k c = if k.dying c then or_waiting k c (Gone c) else phase_turn s k c (k.world.client c).phase
 
 -- the one event that the server makes at its turn
 abbrev pub server_turn : Scene → Core → Option Event

@@ -1,8 +1,8 @@
 -- What a check of a journal counts.
 use Rattle.std.specs.List.{list_all}
-use Rattle.std.specs.Prelude.{Bool, List, None, Option, Some, [], false, if◌then◌else◌, is_none, length, not, true, ℕ, ◌&&◌, ◌+◌, ◌==◌, ◌∷◌}
+use Rattle.std.specs.Prelude.{Bool, List, Option, Some, [], if◌then◌else◌, is_none, length, not, true, ℕ, ◌&&◌, ◌+◌, ◌==◌, ◌∷◌}
 use Rattle.dri_base.specs.declared.command.Command.{Command}
-use Rattle.dri_base.specs.declared.command.Command.TheVariants.{Clear, Die, Set, Swap, Triangle, Yield}
+use Rattle.dri_base.specs.declared.command.Command.TheVariants.{Clear, Swap}
 use Rattle.dri_base.specs.declared.journal.Entry.{Entry}
 use Rattle.dri_base.specs.declared.scene.Scene.{Scene}
 use Rattle.dri_core.specs.EntryTable.{after_entry}
@@ -31,42 +31,23 @@ pub record Tally : Type 0 where
 abbrev pub standing_after : Option Command → Standing → Standing
 standing_after (Some (Clear colour depth)) old = Stood
 standing_after (Some Swap) old = NoClear
-standing_after (Some (Set setting)) old = old
-standing_after (Some (Triangle t)) old = old
-standing_after (Some Yield) old = old
-standing_after (Some Die) old = old
-standing_after None old = old
+standing_after _ old = old
 
 -- what a new stamp makes of it
 abbrev pub cut_by : Bool → Standing → Standing
 cut_by true Stood = Cut
-cut_by true NoClear = NoClear
-cut_by true Cut = Cut
-cut_by false old = old
+cut_by _ old = old
 
 -- a swap counts where its frame has a clear
 abbrev pub counts_frame : Option Command → Standing → ℕ
-counts_frame (Some Swap) NoClear = 0
 counts_frame (Some Swap) Stood = 1
 counts_frame (Some Swap) Cut = 1
-counts_frame (Some (Clear colour depth)) old = 0
-counts_frame (Some (Set setting)) old = 0
-counts_frame (Some (Triangle t)) old = 0
-counts_frame (Some Yield) old = 0
-counts_frame (Some Die) old = 0
-counts_frame None old = 0
+counts_frame _ _ = 0
 
 -- and as one that stood where its last clear has stood
 abbrev pub counts_stood : Option Command → Standing → ℕ
 counts_stood (Some Swap) Stood = 1
-counts_stood (Some Swap) NoClear = 0
-counts_stood (Some Swap) Cut = 0
-counts_stood (Some (Clear colour depth)) old = 0
-counts_stood (Some (Set setting)) old = 0
-counts_stood (Some (Triangle t)) old = 0
-counts_stood (Some Yield) old = 0
-counts_stood (Some Die) old = 0
-counts_stood None old = 0
+counts_stood _ _ = 0
 
 -- the tally after an entry that leads from one world to the next
 abbrev pub tally_run : Scene → Tally → ℕ → Option Command → Tally
@@ -85,13 +66,7 @@ abbrev pub tally_after : Scene → World → Entry → Tally → Tally
 tally_after s w (Entry_is.Run c i) t = tally_run s t c (command_at s c i)
 tally_after s w (Entry_is.Change i) t = tally_cut s w (Entry_is.Change i) t
 tally_after s w (Entry_is.Gone c) t = tally_cut s w (Entry_is.Gone c) t
-tally_after s w (Entry_is.Light c) t = t
-tally_after s w (Entry_is.Kernel c found) t = t
-tally_after s w (Entry_is.Stale c) t = t
-tally_after s w (Entry_is.Emit c groups) t = t
-tally_after s w (Entry_is.Place c u first count) t = t
-tally_after s w (Entry_is.Leave c) t = t
-tally_after s w (Entry_is.Info c) t = t
+tally_after s w _ t = t
 
 -- the tally after these entries
 abbrev pub tally_from : Scene → World → Tally → List Entry → Tally

@@ -19,7 +19,7 @@ use Rattle.dri_core.specs.Cores.{Core, Word, entry_of, journal_of, opening_core,
 use Rattle.dri_core.specs.EventTable.{LegalEvent, after_event, queue_after, word_after, world_after}
 use Rattle.dri_core.specs.Phases.{Phase, Out, Old, In, Over, Ask, Asking, Ended, Dead}
 use Rattle.dri_core.specs.Runs.{after}
-use Rattle.dri_core.specs.Turns.{core_after, kill, one_event, or_waiting, server_turn, turn, turn_in, turn_of}
+use Rattle.dri_core.specs.Turns.{core_after, kill, one_event, or_waiting, server_turn, turn, phase_turn, turn_of}
 use Rattle.dri_core.specs.Worlds.{World, opening}
 use Rattle.dri_core.specs.Privates.{opening_part}
 use Rattle.dri_core.proofs.Bounds.{numbers_within}
@@ -75,7 +75,7 @@ local_turn s w word queue f g c same = rw same (by_life (g c) ((w.client c).phas
     b : Core
     b = record { world = w; word = word; queue = queue; dying = g }
 
-    by_phase : (p : Phase) → turn_in s a c p ≡ turn_in s b c p
+    by_phase : (p : Phase) → phase_turn s a c p ≡ phase_turn s b c p
     by_phase Out = refl
     by_phase Old = refl
     by_phase In = refl
@@ -85,7 +85,7 @@ local_turn s w word queue f g c same = rw same (by_life (g c) ((w.client c).phas
     by_phase Ended = refl
     by_phase Dead = refl
 
-    by_life : (d : Bool) (p : Phase) → (if d then or_waiting a c (Gone c) else turn_in s a c p) ≡ (if d then or_waiting b c (Gone c) else turn_in s b c p)
+    by_life : (d : Bool) (p : Phase) → (if d then or_waiting a c (Gone c) else phase_turn s a c p) ≡ (if d then or_waiting b c (Gone c) else phase_turn s b c p)
     by_life true p = refl
     by_life false p = by_phase p
 

@@ -9,7 +9,7 @@ use Rattle.dri_base.specs.declared.journal.Event.TheVariants.{Kernel, Info, Chan
 use Rattle.dri_base.specs.declared.scene.Scene.{Scene}
 use Rattle.dri_core.specs.Cores.{Core, is_first, is_next, is_queued}
 use Rattle.dri_core.specs.Phases.{Phase, Out, Old, In, Over, Ask, Asking, Ended, Dead, is_done, is_holding, wants_in}
-use Rattle.dri_core.specs.Turns.{kill, or_waiting, turn, turn_in, waiting}
+use Rattle.dri_core.specs.Turns.{kill, or_waiting, turn, phase_turn, waiting}
 use Rattle.dri_core.proofs.Endings.{acts, there}
 use Rattle.dri_core.proofs.EventTurns.{first_is, first_queued}
 use Rattle.dri_core.proofs.Lively.{Lively}
@@ -50,7 +50,7 @@ module _ (s : Scene) (k : Core) (known : Known s k) (lively : Lively s k.world) 
       by_way true w = absurd (some_not_none (rw w at h))
       by_way false w = waits a w (rw w at h)
 
-  in_phase : (c : ℕ) → (p : Phase) → (k.world.client (suc c)).phase ≡ p → turn_in s k (suc c) p ≡ None → IsPassedOver s k (suc c)
+  in_phase : (c : ℕ) → (p : Phase) → (k.world.client (suc c)).phase ≡ p → phase_turn s k (suc c) p ≡ None → IsPassedOver s k (suc c)
   in_phase c Out ph h = by_name (not k.word.held && (k.word.context == suc c + 1)) refl
     where
       by_name : (b : Bool) → (not k.word.held && (k.word.context == suc c + 1)) ≡ b → IsPassedOver s k (suc c)
@@ -59,7 +59,7 @@ module _ (s : Scene) (k : Core) (known : Known s k) (lively : Lively s k.world) 
   in_phase c Old ph h = absurd (some_not_none h)
   in_phase c In ph h = absurd (some_not_none (sym moves.1 ∙ h))
     where
-      moves : (e : Event) × (turn_in s k (suc c) In ≡ Some e)
+      moves : (e : Event) × (phase_turn s k (suc c) In ≡ Some e)
       moves = acts s k.world (suc c) (command_at s (suc c) (k.world.client (suc c)).place) (there (commands_of s (suc c)) (pred (k.world.client (suc c)).place) (omega (arith, lively.more (suc c) (rw ph refl), known.sound.main.started (suc c))))
   in_phase c Over ph h = by_mark k.word.contended refl
     where
@@ -110,7 +110,7 @@ module _ (s : Scene) (k : Core) (known : Known s k) (lively : Lively s k.world) 
       by_word false h false n = rw (h, n) refl
       by_word false h true n = absurd (true≢false (sym queued ∙ known.queued.named c live ph h (grind (arith, nat_tests))))
 
-  waiting_phase : (c : ℕ) → k.dying (suc c) ≡ false → IsBehind k (suc c) ⊎ HasMarked k (suc c) → (p : Phase) → (k.world.client (suc c)).phase ≡ p → wants_in p ≡ true → turn_in s k (suc c) p ≡ None
+  waiting_phase : (c : ℕ) → k.dying (suc c) ≡ false → IsBehind k (suc c) ⊎ HasMarked k (suc c) → (p : Phase) → (k.world.client (suc c)).phase ≡ p → wants_in p ≡ true → phase_turn s k (suc c) p ≡ None
   waiting_phase c live waits Out ph w = rw (unnamed (suc c) live ph (in_queue (suc c) waits)) (stays (suc c) (Kernel (suc c) k.word.context) waits)
   waiting_phase c live waits Asking ph w = stays (suc c) (Info (suc c)) waits
   waiting_phase c live waits Old ph w = absurd (true≢false (sym w))
@@ -120,7 +120,7 @@ module _ (s : Scene) (k : Core) (known : Known s k) (lively : Lively s k.world) 
   waiting_phase c live waits Ended ph w = absurd (true≢false (sym w))
   waiting_phase c live waits Dead ph w = absurd (true≢false (sym w))
 
-  through_phase : (c : ℕ) (p : Phase) → is_done p ≡ true → turn_in s k c p ≡ None
+  through_phase : (c : ℕ) (p : Phase) → is_done p ≡ true → phase_turn s k c p ≡ None
   through_phase c Ended d = refl
   through_phase c Dead d = refl
   through_phase c Out d = absurd (true≢false (sym d))

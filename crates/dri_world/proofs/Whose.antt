@@ -17,7 +17,7 @@ use Rattle.dri_core.specs.Phases.{Phase, Out, Old, In, Over, Ask, Asking, Ended,
 use Rattle.dri_core.specs.Privates.{textured_with}
 use Rattle.dri_core.specs.Runs.{client_of}
 use Rattle.dri_core.specs.TurnLaws.{actor_of}
-use Rattle.dri_core.specs.Turns.{turn, turn_in, emit_turn, triangle_turn, acting_turn, core_after, server_turn, waiting, or_waiting, kill}
+use Rattle.dri_core.specs.Turns.{turn, phase_turn, emit_turn, triangle_turn, acting_turn, core_after, server_turn, waiting, or_waiting, kill}
 use Rattle.dri_core.specs.Worlds.{World}
 use Rattle.dri_core.proofs.Laws.{foreign_entries}
 use Rattle.dri_model.specs.Groups.{is_empty, bits}
@@ -74,7 +74,7 @@ leaves_of k c = by_mark k.word.contended
     by_mark true = refl
     by_mark false = refl
 
-pub goes_of : (s : Scene) (k : Core) (c : ℕ) (p : Phase) → IsOf c (turn_in s k c p)
+pub goes_of : (s : Scene) (k : Core) (c : ℕ) (p : Phase) → IsOf c (phase_turn s k c p)
 goes_of s k c Out = by_name (not k.word.held && (k.word.context == c + 1))
   where
     by_name : (b : Bool) → IsOf c (if b then Some (Light c) else or_waiting k c (Kernel c k.word.context))
@@ -97,7 +97,7 @@ turn_is_of s k zero = by_left (nat_lt k.world.made (length s.changes))
     by_left false = tt
 turn_is_of s k (suc c) = by_life (k.dying (suc c))
   where
-    by_life : (b : Bool) → IsOf (suc c) (if b then or_waiting k (suc c) (Gone (suc c)) else turn_in s k (suc c) (k.world.client (suc c)).phase)
+    by_life : (b : Bool) → IsOf (suc c) (if b then or_waiting k (suc c) (Gone (suc c)) else phase_turn s k (suc c) (k.world.client (suc c)).phase)
     by_life true = or_waits_of k (suc c) (Gone (suc c)) refl
     by_life false = goes_of s k (suc c) (k.world.client (suc c)).phase
 

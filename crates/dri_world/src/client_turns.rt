@@ -6,7 +6,7 @@ ghost use Rattle.dri_driver.specs.Acts.{IfRan, IsAtDeath, IsAtEnd, MustGo, Unles
 ghost use Rattle.dri_driver.specs.Fits.{Fits, IsSameClient};
 ghost use Rattle.dri_core.specs.Phases as Phase_is;
 ghost use Rattle.dri_core.specs.Phases.{is_holding};
-ghost use Rattle.dri_core.specs.Turns.{kill, or_waiting, turn_in, turn_of, waiting};
+ghost use Rattle.dri_core.specs.Turns.{kill, or_waiting, phase_turn, turn_of, waiting};
 ghost use Rattle.dri_shared.specs.States.{Added, MayAdd, world_of};
 ghost use Rattle.dri_world.specs.Locks.{core_at};
 ghost use Rattle.dri_world.specs.Turns.{Brings, IsSeated, MayBring};
@@ -49,8 +49,8 @@ pub(crate) fn turn_of(
 fn turn_out(shared: &mut Shared, lock: &mut Lock, client: &mut Client, number: u32) -> Option<Event>
     requires seated { IsSeated shared.old client.old number }
     requires living { client.old.dying ≡ false }
-    requires legal { MayBring shared.old (turn_in shared.old.scene (core_at shared.old lock.old false) number Phase_is.Out) }
-    ensures event { result ≡ turn_in shared.old.scene (core_at shared.old lock.old false) number Phase_is.Out }
+    requires legal { MayBring shared.old (phase_turn shared.old.scene (core_at shared.old lock.old false) number Phase_is.Out) }
+    ensures event { result ≡ phase_turn shared.old.scene (core_at shared.old lock.old false) number Phase_is.Out }
     ensures made { Brings result shared.old shared.new lock.old lock.new client.old client.new }
 {
     if !lock.word.is_held() && lock.word.context() == number + 1 {
@@ -73,8 +73,8 @@ fn turn_in(
     requires seated { IsSeated shared.old client.old number }
     requires living { client.old.dying ≡ false }
     requires phase { client.old.phase ≡ Phase_is.In }
-    requires legal { MayBring shared.old (turn_in shared.old.scene (core_at shared.old lock.old false) number Phase_is.In) }
-    ensures event { IfOk result (λ o. o ≡ turn_in shared.old.scene (core_at shared.old lock.old false) number Phase_is.In) }
+    requires legal { MayBring shared.old (phase_turn shared.old.scene (core_at shared.old lock.old false) number Phase_is.In) }
+    ensures event { IfOk result (λ o. o ≡ phase_turn shared.old.scene (core_at shared.old lock.old false) number Phase_is.In) }
     ensures made { IfOk result (λ o. Brings o shared.old shared.new lock.old lock.new client.old client.new) }
     ensures err { OnErr result (Brings None shared.old shared.new lock.old lock.new client.old client.new) }
 {
@@ -145,8 +145,8 @@ fn turn_asking(
     requires seated { IsSeated shared.old client.old number }
     requires living { client.old.dying ≡ false }
     requires phase { client.old.phase ≡ Phase_is.Asking }
-    requires legal { MayBring shared.old (turn_in shared.old.scene (core_at shared.old lock.old false) number Phase_is.Asking) }
-    ensures event { IfOk result (λ o. o ≡ turn_in shared.old.scene (core_at shared.old lock.old false) number Phase_is.Asking) }
+    requires legal { MayBring shared.old (phase_turn shared.old.scene (core_at shared.old lock.old false) number Phase_is.Asking) }
+    ensures event { IfOk result (λ o. o ≡ phase_turn shared.old.scene (core_at shared.old lock.old false) number Phase_is.Asking) }
     ensures made { IfOk result (λ o. Brings o shared.old shared.new lock.old lock.new client.old client.new) }
     ensures err { OnErr result (Brings None shared.old shared.new lock.old lock.new client.old client.new) }
 {
