@@ -1,13 +1,14 @@
-ghost use Rattle.std.specs.Prelude.{◌≡◌, [], ◌≤ℤ◌, ◌-ℤ◌, ℤ, ◌&&◌, ◌||◌, not, IfOk, length, ◌<◌, slice_get, Some};
+ghost use Rattle.std.specs.Prelude.{◌≡◌, [], ◌≤ℤ◌, ◌-ℤ◌, ℤ, ◌&&◌, ◌||◌, not, IfOk, ◌+◌, length, ◌<◌, slice_get, Some};
 ghost use Rattle.std.specs.List.{AllByRecursion, All, AllPairs};
 ghost use Rattle.dri_rect.specs.Pixels.{has_pixel, inside, SamePixels, IsInRange, IsProper, ComesBefore, IsApart, StaysInRange, shift, moved};
 ghost use Rattle.dri_rect.specs.Walk.{Movable, answer};
 
 use crate::bands::combine;
 use crate::operation::Operation;
-use dri_base::{OutOfMemory, Rect};
+use dri_base::{OutOfMemory, Rect, Steps};
 use std::alloc::Global;
 use std::marker::Model;
+use std::sync::ledger::Ledger;
 
 /// A set of pixels with coordinates from -4,096 to 4,096. Contracts see it as its rectangles, of which there is one list
 /// for each set.
@@ -79,36 +80,49 @@ fn move_all(alloc: Global, rects: &[Rect], dx: i32, dy: i32) -> Result<Vec<Rect>
 }
 
 impl Region {
-    /// The set of no pixel. It takes no memory.
-    pub fn empty(alloc: Global) -> Region
-        ensures { result ≡ [] }
+    /// The set of no pixel. It takes no memory, and makes no step.
+    pub fn empty<L: Ledger>(alloc: Global, steps: &mut Steps<L>) -> Region
+        ensures region { result ≡ [] }
+        ensures steps { steps.new ≡ steps.old }
     {
         Region {
             rects: Vec::new(alloc),
         }
     }
 
-    /// The pixels of a rectangle, whose numbers are in range. A rectangle without a pixel gives the empty set.
+    /// The pixels of a rectangle, whose numbers are in range, in one step. A rectangle without a pixel gives the empty set.
     #[tactic(auto, using(crate::proofs::Regions::one_region, crate::proofs::Regions::no_pixels))]
-    pub fn of_rect(alloc: Global, rect: &Rect) -> Result<Region, OutOfMemory>
+    pub fn of_rect<L: Ledger>(
+        alloc: Global,
+        rect: &Rect,
+        steps: &mut Steps<L>,
+    ) -> Result<Region, OutOfMemory>
         requires { IsInRange rect.now }
-        ensures { IfOk result (λ region. (x y : ℤ) → inside region x y ≡ has_pixel rect.now x y) }
+        ensures region { IfOk result (λ region. (x y : ℤ) → inside region x y ≡ has_pixel rect.now x y) }
+        ensures steps { steps.new ≡ steps.old + 1 }
     {
+        steps.tick();
         if rect.x2 <= rect.x1 {
-            return Ok(Region::empty(alloc));
+            return Ok(Region::empty(alloc, steps));
         }
         if rect.y2 <= rect.y1 {
-            return Ok(Region::empty(alloc));
+            return Ok(Region::empty(alloc, steps));
         }
         let mut rects = Vec::with_capacity(alloc, 1)?;
         rects.push(*rect)?;
         Ok(Region { rects })
     }
 
-    /// The same set.
-    pub fn copy(&self, alloc: Global) -> Result<Region, OutOfMemory>
-        ensures { IfOk result (λ region. region ≡ self.now) }
+    /// The same set, in one step.
+    pub fn copy<L: Ledger>(
+        &self,
+        alloc: Global,
+        steps: &mut Steps<L>,
+    ) -> Result<Region, OutOfMemory>
+        ensures region { IfOk result (λ region. region ≡ self.now) }
+        ensures steps { steps.new ≡ steps.old + 1 }
     {
+        steps.tick();
         Ok(Region {
             rects: Vec::from_slice(alloc, self.rects.as_slice())?,
         })
@@ -132,33 +146,62 @@ impl Region {
         Ok(Region { rects })
     }
 
-    /// The pixels of either set.
-    pub fn unite(&self, alloc: Global, other: &Region) -> Result<Region, OutOfMemory>
-        ensures { IfOk result (λ region. (x y : ℤ) → inside region x y ≡ (inside self.now x y || inside other.now x y)) }
+    /// The pixels of either set, in one step.
+    pub fn unite<L: Ledger>(
+        &self,
+        alloc: Global,
+        other: &Region,
+        steps: &mut Steps<L>,
+    ) -> Result<Region, OutOfMemory>
+        ensures region { IfOk result (λ region. (x y : ℤ) → inside region x y ≡ (inside self.now x y || inside other.now x y)) }
+        ensures steps { steps.new ≡ steps.old + 1 }
     {
+        steps.tick();
         self.combined(alloc, Operation::Unite, other)
     }
 
-    /// The pixels of this set that aren't in the other.
-    pub fn subtract(&self, alloc: Global, other: &Region) -> Result<Region, OutOfMemory>
-        ensures { IfOk result (λ region. (x y : ℤ) → inside region x y ≡ (inside self.now x y && not (inside other.now x y))) }
+    /// The pixels of this set that aren't in the other, in one step.
+    pub fn subtract<L: Ledger>(
+        &self,
+        alloc: Global,
+        other: &Region,
+        steps: &mut Steps<L>,
+    ) -> Result<Region, OutOfMemory>
+        ensures region { IfOk result (λ region. (x y : ℤ) → inside region x y ≡ (inside self.now x y && not (inside other.now x y))) }
+        ensures steps { steps.new ≡ steps.old + 1 }
     {
+        steps.tick();
         self.combined(alloc, Operation::Subtract, other)
     }
 
-    /// The pixels of both sets.
-    pub fn intersect(&self, alloc: Global, other: &Region) -> Result<Region, OutOfMemory>
-        ensures { IfOk result (λ region. (x y : ℤ) → inside region x y ≡ (inside self.now x y && inside other.now x y)) }
+    /// The pixels of both sets, in one step.
+    pub fn intersect<L: Ledger>(
+        &self,
+        alloc: Global,
+        other: &Region,
+        steps: &mut Steps<L>,
+    ) -> Result<Region, OutOfMemory>
+        ensures region { IfOk result (λ region. (x y : ℤ) → inside region x y ≡ (inside self.now x y && inside other.now x y)) }
+        ensures steps { steps.new ≡ steps.old + 1 }
     {
+        steps.tick();
         self.combined(alloc, Operation::Intersect, other)
     }
 
-    /// The set, moved by dx to the right and dy down. Each moved pixel has to be one that a region may have.
-    pub fn translate(&self, alloc: Global, dx: i32, dy: i32) -> Result<Region, OutOfMemory>
+    /// The set, moved by dx to the right and dy down, in one step. Each moved pixel has to be one that a region may have.
+    pub fn translate<L: Ledger>(
+        &self,
+        alloc: Global,
+        dx: i32,
+        dy: i32,
+        steps: &mut Steps<L>,
+    ) -> Result<Region, OutOfMemory>
         requires { StaysInRange dx dy self.now }
         ensures rects { IfOk result (λ region. region ≡ moved dx dy self.now) }
         ensures pixels { IfOk result (λ region. (x y : ℤ) → inside region x y ≡ inside self.now (x -ℤ dx) (y -ℤ dy)) }
+        ensures steps { steps.new ≡ steps.old + 1 }
     {
+        steps.tick();
         Ok(Region {
             rects: move_all(alloc, self.rects.as_slice(), dx, dy)?,
         })
