@@ -15,10 +15,11 @@ use crate::paints::paints;
 use crate::stack::Stack;
 use crate::stamps::restamp;
 use crate::{ChangeFault, Touched};
-use dri_base::{Change, OutOfMemory, Point, Rgb, Scene};
+use dri_base::{Change, OutOfMemory, Point, Rgb, Scene, Steps};
 use dri_rect::Region;
 use std::alloc::Global;
-use std::marker::Model;
+use std::marker::{Brand, Model};
+use std::sync::ledger::{Blank, Ledger};
 
 /// The window stack of a screen with what shows of each window, and a stamp for each window number.
 #[derive(Drop)]
@@ -47,17 +48,16 @@ impl Board {
         requires { InRange scene.now }
         ensures { IfOk result (IsOpening scene.now) }
     {
-        let stack = Stack::from_windows(alloc, scene.windows.as_slice())?;
-        Ok(Board {
-            root: scene.root,
-            layout: Layout::new(alloc, scene.width, scene.height, stack)?,
-            stamps: [1; 65],
-            counter: 1,
-        })
+        opening::<Brand>(alloc, scene, Blank::new(1))
     }
 
     /// Puts a new stack in place, and tells what it touches.
-    fn restack(&mut self, alloc: Global, stack: Stack) -> Result<Touched, OutOfMemory>
+    fn restack<L: Ledger>(
+        &mut self,
+        alloc: Global,
+        stack: Stack,
+        steps: &mut Steps<L>,
+    ) -> Result<Touched, OutOfMemory>
         requires counter { self.old.counter ≤ 4294967231 }
         requires ranged { All WindowInRange stack }
         requires numbers { SameNumbers self.old.stack stack }
@@ -65,9 +65,9 @@ impl Board {
         ensures touched { IfOk result (IsTouched self.old stack) }
         ensures err { OnErr result (self.new ≡ self.old) }
     {
-        let layout = Layout::new(alloc, self.layout.width, self.layout.height, stack)?;
+        let layout = Layout::new(alloc, self.layout.width, self.layout.height, stack, steps)?;
         let new = restamp(alloc, &self.layout, &layout, &self.stamps, self.counter)?;
-        let paints = paints(alloc, self.root, &self.layout, &layout)?;
+        let paints = paints(alloc, self.root, &self.layout, &layout, steps)?;
         self.layout = layout;
         let stamps = new.stamps;
         self.stamps = stamps;
@@ -80,7 +80,12 @@ impl Board {
 
     /// Makes a change, and tells what it touched. The windows touched get new stamps, by rising number. A change that is
     /// refused, or for which memory is wanting, leaves the board as it was. The stamp counter is at most 4,294,967,231.
-    pub fn apply(&mut self, alloc: Global, change: &Change) -> Result<Touched, ChangeFault>
+    pub fn apply<L: Ledger>(
+        &mut self,
+        alloc: Global,
+        change: &Change,
+        steps: &mut Steps<L>,
+    ) -> Result<Touched, ChangeFault>
         requires { self.old.counter ≤ 4294967231 }
         ensures allowed { OnOk result (refusal change.now self.old.stack ≡ None) }
         ensures ok { OnOk result (IsRestacked (stack_after change.now self.old.stack) self.old self.new) }
@@ -93,19 +98,24 @@ impl Board {
     {
         let at = place_to_change(&self.layout.stack, change)?;
         let stack = changed(&self.layout.stack, at, change)?;
-        Ok(self.restack(alloc, stack)?)
+        Ok(self.restack(alloc, stack, steps)?)
     }
 
     /// Unmaps each window of an owner, as one change, and tells what it touched. Where memory is wanting the board stays
     /// as it was. The stamp counter is at most 4,294,967,231.
-    pub fn unmap_owner(&mut self, alloc: Global, owner: u32) -> Result<Touched, OutOfMemory>
+    pub fn unmap_owner<L: Ledger>(
+        &mut self,
+        alloc: Global,
+        owner: u32,
+        steps: &mut Steps<L>,
+    ) -> Result<Touched, OutOfMemory>
         requires { self.old.counter ≤ 4294967231 }
         ensures ok { OnOk result (IsRestacked (without_owner owner self.old.stack) self.old self.new) }
         ensures touched { IfOk result (IsTouched self.old (without_owner owner self.old.stack)) }
         ensures err { OnErr result (self.new ≡ self.old) }
     {
         let stack = without_owner(&self.layout.stack, owner)?;
-        self.restack(alloc, stack)
+        self.restack(alloc, stack, steps)
     }
 
     /// The stamp of a window that is on the board.
@@ -151,4 +161,22 @@ impl Board {
     {
         let _layout = &self.layout;
     }
+}
+
+// The first lists count steps that nobody asks for.
+fn opening<L: Ledger>(alloc: Global, scene: &Scene, blank: Blank) -> Result<Board, OutOfMemory>
+    requires name { blank.name ≡ L.name }
+    requires parts { blank.parts ≡ L.parts }
+    requires one { L.parts ≡ 1 }
+    requires scene { InRange scene.now }
+    ensures { IfOk result (IsOpening scene.now) }
+{
+    let mut steps = Steps::<L>::new(blank);
+    let stack = Stack::from_windows(alloc, scene.windows.as_slice())?;
+    Ok(Board {
+        root: scene.root,
+        layout: Layout::new(alloc, scene.width, scene.height, stack, &mut steps)?,
+        stamps: [1; 65],
+        counter: 1,
+    })
 }

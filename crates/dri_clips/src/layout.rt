@@ -7,9 +7,10 @@ ghost use Rattle.dri_clips.specs.Layouts.{AreLayouts, IsCut, IsLayout, screen_re
 
 use crate::regions::same_region;
 use crate::stack::Stack;
-use dri_base::{OutOfMemory, Point, Rect, Window};
+use dri_base::{OutOfMemory, Point, Rect, Steps, Window};
 use dri_rect::Region;
 use std::alloc::Global;
+use std::sync::ledger::Ledger;
 
 /// What shows of the windows of a stack on a screen.
 #[derive(Drop)]
@@ -56,28 +57,39 @@ fn screen(width: u32, height: u32) -> Rect
 }
 
 /// Cuts a window out of what is free.
-fn cut(alloc: Global, free: Region, window: &Window) -> Result<Split, OutOfMemory>
+fn cut<L: Ledger>(
+    alloc: Global,
+    free: Region,
+    window: &Window,
+    steps: &mut Steps<L>,
+) -> Result<Split, OutOfMemory>
     requires { WindowInRange window.now }
     ensures { IfOk result (λ split. IsCut free window.now split) }
 {
     if !window.mapped {
         return Ok(Split {
-            part: Region::empty(alloc),
+            part: Region::empty(alloc, steps),
             rest: free,
         });
     }
-    let rect = Region::of_rect(alloc, &rect_of(window))?;
-    let part = free.intersect(alloc, &rect)?;
+    let rect = Region::of_rect(alloc, &rect_of(window), steps)?;
+    let part = free.intersect(alloc, &rect, steps)?;
     if part.len() == 0 {
         return Ok(Split { part, rest: free });
     }
-    let rest = free.subtract(alloc, &rect)?;
+    let rest = free.subtract(alloc, &rect, steps)?;
     Ok(Split { part, rest })
 }
 
 impl Layout {
     /// The layout of a stack: each mapped window in turn is cut out of the screen.
-    pub fn new(alloc: Global, width: u32, height: u32, stack: Stack) -> Result<Layout, OutOfMemory>
+    pub fn new<L: Ledger>(
+        alloc: Global,
+        width: u32,
+        height: u32,
+        stack: Stack,
+        steps: &mut Steps<L>,
+    ) -> Result<Layout, OutOfMemory>
         requires wide { IsSide width }
         requires high { IsSide height }
         requires ranged { All WindowInRange stack }
@@ -86,10 +98,10 @@ impl Layout {
         ensures height { IfOk result (λ l. l.height ≡ height) }
         ensures layout { IfOk result IsLayout }
     {
-        let mut free = Region::of_rect(alloc, &screen(width, height))?;
+        let mut free = Region::of_rect(alloc, &screen(width, height), steps)?;
         let mut clips = Vec::with_capacity(alloc, stack.len())?;
         for at in 0..stack.len() {
-            let split = cut(alloc, free, &stack.window(at))?;
+            let split = cut(alloc, free, &stack.window(at), steps)?;
             clips.push(split.part)?;
             free = split.rest;
         }

@@ -11,9 +11,10 @@ ghost use Rattle.dri_clips.specs.Paints.{ArePaints};
 use crate::layout::Layout;
 use crate::regions::same_region;
 use crate::{Paint, Paints};
-use dri_base::{ClipRect, OutOfMemory, Rect, Rgb};
+use dri_base::{ClipRect, OutOfMemory, Rect, Rgb, Steps};
 use dri_rect::Region;
 use std::alloc::Global;
+use std::sync::ledger::Ledger;
 
 /// A rectangle of the screen.
 fn clip_rect(rect: &Rect) -> ClipRect
@@ -46,37 +47,54 @@ fn paint_region(paints: &mut Paints, region: &Region, colour: Rgb) -> Result<(),
 }
 
 /// The pixels of the new region that the old one lacks.
-fn gained(alloc: Global, old: &Region, new: &Region) -> Result<Region, OutOfMemory>
+fn gained<L: Ledger>(
+    alloc: Global,
+    old: &Region,
+    new: &Region,
+    steps: &mut Steps<L>,
+) -> Result<Region, OutOfMemory>
     ensures { IfOk result (λ region. (x y : ℤ) → inside region x y ≡ (inside new.now x y && not (inside old.now x y))) }
 {
     if same_region(old, new) {
-        return Ok(Region::empty(alloc));
+        return Ok(Region::empty(alloc, steps));
     }
-    new.subtract(alloc, old)
+    new.subtract(alloc, old, steps)
 }
 
 /// The pixels at which the window at a place shows now and didn't before.
-fn gained_by(alloc: Global, old: &Layout, new: &Layout, at: usize) -> Result<Region, OutOfMemory>
+fn gained_by<L: Ledger>(
+    alloc: Global,
+    old: &Layout,
+    new: &Layout,
+    at: usize,
+    steps: &mut Steps<L>,
+) -> Result<Region, OutOfMemory>
     requires layouts { AreLayouts old.now new.now }
     requires there { at < length new.now.stack }
     ensures { IfOk result (IsGain old.now new.now at) }
 {
     match old.stack.place(new.stack.window(at).number) {
-        Some(before) => gained(alloc, &old.clips[before], &new.clips[at]),
-        None => new.clips[at].copy(alloc),
+        Some(before) => gained(alloc, &old.clips[before], &new.clips[at], steps),
+        None => new.clips[at].copy(alloc, steps),
     }
 }
 
 /// What a new layout paints.
-pub fn paints(alloc: Global, root: Rgb, old: &Layout, new: &Layout) -> Result<Paints, OutOfMemory>
+pub fn paints<L: Ledger>(
+    alloc: Global,
+    root: Rgb,
+    old: &Layout,
+    new: &Layout,
+    steps: &mut Steps<L>,
+) -> Result<Paints, OutOfMemory>
     requires { AreLayouts old.now new.now }
     ensures { IfOk result (ArePaints old.now.width old.now.height root old.now.stack new.now.stack) }
 {
     let mut paints = Paints::new(alloc);
-    let bared = gained(alloc, &old.free, &new.free)?;
+    let bared = gained(alloc, &old.free, &new.free, steps)?;
     paint_region(&mut paints, &bared, root)?;
     for at in 0..new.stack.len() {
-        let part = gained_by(alloc, old, new, at)?;
+        let part = gained_by(alloc, old, new, at, steps)?;
         paint_region(&mut paints, &part, new.stack.window(at).background)?;
     }
     Ok(paints)

@@ -3,7 +3,7 @@
 //! before. Its clips are a region of its own, which a told client takes over; textures, commands and planes are never
 //! copied.
 
-ghost use Rattle.std.specs.Prelude.{◌≡◌, ◌⊎◌, Contains, IfOk, false, true};
+ghost use Rattle.std.specs.Prelude.{◌≡◌, ◌⊎◌, [], Contains, IfOk, false, true};
 ghost use Rattle.std.specs.Arc.{arc_value};
 ghost use Rattle.dri_base.specs.Ranges.{InRange, client_numbers};
 ghost use Rattle.dri_base.specs.Scenes.{commands_of, script_of};
@@ -26,15 +26,16 @@ mod take;
 mod textures;
 
 use crate::phase::{Activity, Phase};
-use dri_base::{ClientScript, Command, OutOfMemory, Point, Scene};
+use dri_base::{ClientScript, Command, OutOfMemory, Point, Scene, Steps};
 use dri_context::ContextState;
 use dri_rect::Region;
 use dri_shared::Told;
 use dri_texheap::Placed;
 use script::{commands_ahead, index_of};
 use std::alloc::Global;
-use std::marker::Model;
+use std::marker::{Brand, Model};
 use std::sync::Arc;
+use std::sync::ledger::{Blank, Ledger};
 
 /// How many textures a client can have: their numbers are 1 to 64.
 const TEXTURES: u32 = 64;
@@ -68,6 +69,23 @@ impl Model for Client {
     ghost invariant = { λ c. IsKept (state_of c) c.index };
 }
 
+// The empty copy counts no step, and its call wants a counter.
+fn no_clips_counted<L: Ledger>(blank: Blank, alloc: Global) -> Region
+    requires name { blank.name ≡ L.name }
+    requires parts { blank.parts ≡ L.parts }
+    requires one { L.parts ≡ 1 }
+    ensures { result ≡ [] }
+{
+    Region::empty(alloc, &mut Steps::<L>::new(blank))
+}
+
+/// The empty copy of clips that a client begins with.
+fn no_clips(alloc: Global) -> Region
+    ensures { result ≡ [] }
+{
+    no_clips_counted::<Brand>(Blank::new(1), alloc)
+}
+
 impl Client {
     /// A client of a scene in range, as the run begins: with its first command next, an empty copy of its clips, the
     /// state that every script begins with, all of it dirty, and no texture placed.
@@ -90,7 +108,7 @@ impl Client {
             activity,
             place: 1,
             stamp: 0,
-            clips: Region::empty(alloc),
+            clips: no_clips(alloc),
             origin: Point { x: 0, y: 0 },
             context: ContextState::new(),
             placed,

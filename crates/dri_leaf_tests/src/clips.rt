@@ -3,9 +3,12 @@
 ghost use Rattle.std.specs.Prelude.{◌≡◌, ◌≤◌, ◌+◌, IfOk};
 ghost use Rattle.dri_leaf_tests.specs.Boards.{HasBoth};
 
-use dri_base::{Change, ClipRect, OutOfMemory, Point, Rgb, Scene, Sequence, Window};
+use dri_base::{Change, ClipRect, OutOfMemory, Point, Rgb, Scene, Sequence, Steps, Window};
 use dri_clips::{Board, ChangeFault, Paint, Touched};
 use std::alloc::Global;
+use std::marker::Brand;
+use std::process::Abort;
+use std::sync::ledger::{Blank, Ledger};
 use std::test::Fail;
 
 fn grey(level: u8) -> Rgb {
@@ -58,23 +61,33 @@ fn board(alloc: Global) -> Result<Board, OutOfMemory>
 }
 
 /// Makes a change of a board whose stamps are small.
-fn apply(alloc: Global, board: &mut Board, change: &Change) -> Result<Touched, ChangeFault>
+fn apply<L: Ledger>(
+    alloc: Global,
+    board: &mut Board,
+    change: &Change,
+    steps: &mut Steps<L>,
+) -> Result<Touched, ChangeFault>
     requires counter { board.old.counter ≤ 1000 }
     requires both { HasBoth board.old }
     ensures counter { board.new.counter ≤ board.old.counter + 64 }
     ensures both { HasBoth board.new }
 {
     board.arranged();
-    board.apply(alloc, change)
+    board.apply(alloc, change, steps)
 }
 
 /// Unmaps an owner's windows on a board whose stamps are small.
-fn bury(alloc: Global, board: &mut Board, owner: u32) -> Result<Touched, OutOfMemory>
+fn bury<L: Ledger>(
+    alloc: Global,
+    board: &mut Board,
+    owner: u32,
+    steps: &mut Steps<L>,
+) -> Result<Touched, OutOfMemory>
     requires counter { board.old.counter ≤ 1000 }
     requires both { HasBoth board.old }
     ensures { HasBoth board.new }
 {
-    board.unmap_owner(alloc, owner)
+    board.unmap_owner(alloc, owner, steps)
 }
 
 /// A window's stamp, how many rectangles show of it, its corner, and whether it is mapped.
@@ -132,47 +145,71 @@ fn paints_all(touched: &Touched, colour: Rgb) -> bool {
     numbers && touched.paints.as_slice() == [paint].as_slice()
 }
 
-#[test]
-fn stamps_and_paints(rt: HostRuntime) -> Result<(), Fail> {
-    let alloc = rt.alloc();
+fn raise_and_lower<L: Ledger, R: Abort>(rt: &R, alloc: Global, blank: Blank) -> Result<(), Fail>
+    requires name { blank.name ≡ L.name }
+    requires parts { blank.parts ≡ L.parts }
+    requires one { L.parts ≡ 1 }
+{
+    let mut steps = Steps::<L>::new(blank);
     let mut board = board(alloc)?;
-    let raised = apply(alloc, &mut board, &Change::Raise { window: 2 })?;
+    let raised = apply(alloc, &mut board, &Change::Raise { window: 2 }, &mut steps)?;
     assert!(rt; paints_all(&raised, grey(0x22)));
     assert!(rt; look_at(&board) == [in_corner(2, 0, true), in_corner(3, 1, true)]);
-    let lowered = apply(alloc, &mut board, &Change::Lower { window: 2 })?;
+    let lowered = apply(alloc, &mut board, &Change::Lower { window: 2 }, &mut steps)?;
     assert!(rt; paints_all(&lowered, grey(0x11)));
     assert!(rt; look_at(&board) == [in_corner(4, 1, true), in_corner(5, 0, true)]);
     Ok(())
 }
 
-#[test]
-fn death(rt: HostRuntime) -> Result<(), Fail> {
-    let alloc = rt.alloc();
+fn die<L: Ledger, R: Abort>(rt: &R, alloc: Global, blank: Blank) -> Result<(), Fail>
+    requires name { blank.name ≡ L.name }
+    requires parts { blank.parts ≡ L.parts }
+    requires one { L.parts ≡ 1 }
+{
+    let mut steps = Steps::<L>::new(blank);
     let mut board = board(alloc)?;
-    let died = bury(alloc, &mut board, 1)?;
+    let died = bury(alloc, &mut board, 1, &mut steps)?;
     assert!(rt; paints_all(&died, grey(0x22)));
     assert!(rt; look_at(&board) == [in_corner(2, 0, false), in_corner(3, 1, true)]);
     Ok(())
 }
 
-#[test]
-fn refusals(rt: HostRuntime) -> Result<(), Fail> {
-    let alloc = rt.alloc();
+fn refuse_each<L: Ledger, R: Abort>(rt: &R, alloc: Global, blank: Blank) -> Result<(), Fail>
+    requires name { blank.name ≡ L.name }
+    requires parts { blank.parts ≡ L.parts }
+    requires one { L.parts ≡ 1 }
+{
+    let mut steps = Steps::<L>::new(blank);
     let mut board = board(alloc)?;
-    let absent = apply(alloc, &mut board, &Change::Raise { window: 9 });
+    let absent = apply(alloc, &mut board, &Change::Raise { window: 9 }, &mut steps);
     assert!(rt; matches!(absent, Err(ChangeFault::NoWindow)));
     let far = Change::Move {
         window: 1,
         x: 1025,
         y: 0,
     };
-    let moved = apply(alloc, &mut board, &far);
+    let moved = apply(alloc, &mut board, &far, &mut steps);
     assert!(rt; matches!(moved, Err(ChangeFault::OutOfRange)));
-    let map = apply(alloc, &mut board, &Change::Map { window: 1 });
+    let map = apply(alloc, &mut board, &Change::Map { window: 1 }, &mut steps);
     assert!(rt; matches!(map, Err(ChangeFault::AlreadyMapped)));
-    let first = apply(alloc, &mut board, &Change::Unmap { window: 1 });
+    let first = apply(alloc, &mut board, &Change::Unmap { window: 1 }, &mut steps);
     assert!(rt; first.is_ok());
-    let second = apply(alloc, &mut board, &Change::Unmap { window: 1 });
+    let second = apply(alloc, &mut board, &Change::Unmap { window: 1 }, &mut steps);
     assert!(rt; matches!(second, Err(ChangeFault::NotMapped)));
     Ok(())
+}
+
+#[test]
+fn stamps_and_paints(rt: HostRuntime) -> Result<(), Fail> {
+    raise_and_lower::<Brand, _>(&rt, rt.alloc(), Blank::new(1))
+}
+
+#[test]
+fn death(rt: HostRuntime) -> Result<(), Fail> {
+    die::<Brand, _>(&rt, rt.alloc(), Blank::new(1))
+}
+
+#[test]
+fn refusals(rt: HostRuntime) -> Result<(), Fail> {
+    refuse_each::<Brand, _>(&rt, rt.alloc(), Blank::new(1))
 }

@@ -1,12 +1,15 @@
 //! Small regions by their rectangles: what each operation answers, and a move.
 
-ghost use Rattle.std.specs.Prelude.{pos, ◌≤ℤ◌};
+ghost use Rattle.std.specs.Prelude.{pos, ◌≡◌, ◌≤ℤ◌};
 ghost use Rattle.dri_rect.specs.Pixels.{IsInRange};
 
 use Operation::{Intersect, Subtract, Unite};
-use dri_base::{OutOfMemory, Rect};
+use dri_base::{OutOfMemory, Rect, Steps};
 use dri_rect::Region;
 use std::alloc::Global;
+use std::marker::Brand;
+use std::process::Abort;
+use std::sync::ledger::{Blank, Ledger};
 use std::test::Fail;
 
 /// What is asked of two regions.
@@ -109,11 +112,15 @@ fn rect(numbers: &[u8; 4]) -> Rect
     }
 }
 
-fn region(alloc: Global, rects: &[[u8; 4]]) -> Result<Region, OutOfMemory> {
-    let mut all = Region::empty(alloc);
+fn region<L: Ledger>(
+    alloc: Global,
+    rects: &[[u8; 4]],
+    steps: &mut Steps<L>,
+) -> Result<Region, OutOfMemory> {
+    let mut all = Region::empty(alloc, steps);
     for numbers in rects {
-        let one = Region::of_rect(alloc, &rect(numbers))?;
-        all = all.unite(alloc, &one)?;
+        let one = Region::of_rect(alloc, &rect(numbers), steps)?;
+        all = all.unite(alloc, &one, steps)?;
     }
     Ok(all)
 }
@@ -130,40 +137,67 @@ fn has_rects(region: &Region, rects: &[[u8; 4]]) -> bool {
     true
 }
 
-fn answer(alloc: Global, case: &Case) -> Result<Region, OutOfMemory> {
-    let first = region(alloc, case.1)?;
-    let second = region(alloc, case.2)?;
+fn answer<L: Ledger>(
+    alloc: Global,
+    case: &Case,
+    steps: &mut Steps<L>,
+) -> Result<Region, OutOfMemory> {
+    let first = region(alloc, case.1, steps)?;
+    let second = region(alloc, case.2, steps)?;
     match case.0 {
-        Unite => first.unite(alloc, &second),
-        Subtract => first.subtract(alloc, &second),
-        Intersect => first.intersect(alloc, &second),
+        Unite => first.unite(alloc, &second, steps),
+        Subtract => first.subtract(alloc, &second, steps),
+        Intersect => first.intersect(alloc, &second, steps),
     }
+}
+
+fn each_case<L: Ledger, R: Abort>(rt: &R, alloc: Global, blank: Blank) -> Result<(), Fail>
+    requires name { blank.name ≡ L.name }
+    requires parts { blank.parts ≡ L.parts }
+    requires one { L.parts ≡ 1 }
+{
+    let mut steps = Steps::<L>::new(blank);
+    for case in &CASES {
+        assert!(rt; has_rects(&answer(alloc, case, &mut steps)?, case.3));
+    }
+    Ok(())
 }
 
 #[test]
 fn operations(rt: HostRuntime) -> Result<(), Fail> {
-    for case in &CASES {
-        assert!(rt; has_rects(&answer(rt.alloc(), case)?, case.3));
-    }
-    Ok(())
+    each_case::<Brand, _>(&rt, rt.alloc(), Blank::new(1))
 }
 
 /// A rectangle's pixels, moved to the right by up to 255.
-fn moved_right(alloc: Global, numbers: &[u8; 4], dx: u8) -> Result<Region, OutOfMemory> {
+fn moved_right<L: Ledger>(
+    alloc: Global,
+    numbers: &[u8; 4],
+    dx: u8,
+    steps: &mut Steps<L>,
+) -> Result<Region, OutOfMemory> {
     let place = rect(numbers);
-    let region = Region::of_rect(alloc, &place)?;
-    region.translate(alloc, i32::from(dx), 0)
+    let region = Region::of_rect(alloc, &place, steps)?;
+    region.translate(alloc, i32::from(dx), 0, steps)
 }
 
-#[test]
-fn moves(rt: HostRuntime) -> Result<(), Fail> {
-    let moved = moved_right(rt.alloc(), &[0, 0, 2, 2], 3)?;
+fn move_one<L: Ledger, R: Abort>(rt: &R, alloc: Global, blank: Blank) -> Result<(), Fail>
+    requires name { blank.name ≡ L.name }
+    requires parts { blank.parts ≡ L.parts }
+    requires one { L.parts ≡ 1 }
+{
+    let mut steps = Steps::<L>::new(blank);
+    let moved = moved_right(alloc, &[0, 0, 2, 2], 3, &mut steps)?;
     assert!(rt; has_rects(&moved, &[[3, 0, 5, 2]]));
     assert!(rt; moved.contains(3, 0));
     assert!(rt; !moved.contains(5, 0));
-    let same = moved.copy(rt.alloc())?;
+    let same = moved.copy(alloc, &mut steps)?;
     assert!(rt; has_rects(&same, &[[3, 0, 5, 2]]));
     same.canonical(&moved);
     same.arranged();
     Ok(())
+}
+
+#[test]
+fn moves(rt: HostRuntime) -> Result<(), Fail> {
+    move_one::<Brand, _>(&rt, rt.alloc(), Blank::new(1))
 }

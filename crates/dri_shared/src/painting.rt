@@ -64,6 +64,33 @@ fn refused(fault: ChangeFault) -> Result<(), OutOfMemory>
     }
 }
 
+// The regions of a change count steps that nobody asks for.
+fn change_counted<L: Ledger>(
+    blank: Blank,
+    alloc: Global,
+    board: &mut Board,
+    card: &mut Card,
+    change: &Change,
+) -> Result<(), OutOfMemory>
+    requires name { blank.name ≡ L.name }
+    requires parts { blank.parts ≡ L.parts }
+    requires one { L.parts ≡ 1 }
+    requires counter { board.old.counter ≤ 4294967231 }
+    requires screen { IsScreen card.old }
+    requires width { card.old.front.width ≡ board.old.width }
+    requires height { card.old.front.height ≡ board.old.height }
+    ensures ok { OnOk result (IsRestackedOn (stack_after change.now board.old.stack) board.old board.new card.old card.new) }
+    ensures err { OnErr result ((board.new ≡ board.old) × (card.new ≡ card.old)) }
+{
+    match board.apply(alloc, change, &mut Steps::<L>::new(blank)) {
+        Ok(touched) => {
+            paint(card, touched.paints.as_slice());
+            Ok(())
+        }
+        Err(fault) => refused(fault),
+    }
+}
+
 /// Makes a change of the windows, and paints front. One that the board refuses changes nothing.
 pub(crate) fn change_windows(
     alloc: Global,
@@ -78,13 +105,30 @@ pub(crate) fn change_windows(
     ensures ok { OnOk result (IsRestackedOn (stack_after change.now board.old.stack) board.old board.new card.old card.new) }
     ensures err { OnErr result ((board.new ≡ board.old) × (card.new ≡ card.old)) }
 {
-    match board.apply(alloc, change) {
-        Ok(touched) => {
-            paint(card, touched.paints.as_slice());
-            Ok(())
-        }
-        Err(fault) => refused(fault),
-    }
+    change_counted::<Brand>(Blank::new(1), alloc, board, card, change)
+}
+
+// So do those of a death.
+fn unmap_counted<L: Ledger>(
+    blank: Blank,
+    alloc: Global,
+    board: &mut Board,
+    card: &mut Card,
+    owner: u32,
+) -> Result<(), OutOfMemory>
+    requires name { blank.name ≡ L.name }
+    requires parts { blank.parts ≡ L.parts }
+    requires one { L.parts ≡ 1 }
+    requires counter { board.old.counter ≤ 4294967231 }
+    requires screen { IsScreen card.old }
+    requires width { card.old.front.width ≡ board.old.width }
+    requires height { card.old.front.height ≡ board.old.height }
+    ensures ok { OnOk result (IsRestackedOn (without_owner owner board.old.stack) board.old board.new card.old card.new) }
+    ensures err { OnErr result ((board.new ≡ board.old) × (card.new ≡ card.old)) }
+{
+    let touched = board.unmap_owner(alloc, owner, &mut Steps::<L>::new(blank))?;
+    paint(card, touched.paints.as_slice());
+    Ok(())
 }
 
 /// Unmaps the windows of an owner, and paints front.
@@ -101,7 +145,5 @@ pub(crate) fn unmap_windows(
     ensures ok { OnOk result (IsRestackedOn (without_owner owner board.old.stack) board.old board.new card.old card.new) }
     ensures err { OnErr result ((board.new ≡ board.old) × (card.new ≡ card.old)) }
 {
-    let touched = board.unmap_owner(alloc, owner)?;
-    paint(card, touched.paints.as_slice());
-    Ok(())
+    unmap_counted::<Brand>(Blank::new(1), alloc, board, card, owner)
 }

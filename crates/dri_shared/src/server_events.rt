@@ -10,8 +10,32 @@ use crate::answers::Told;
 use crate::painting::{change_windows, unmap_windows};
 use crate::scripts::window_of;
 use crate::shared::Shared;
-use dri_base::{Entry, OutOfMemory};
+use dri_base::{Entry, OutOfMemory, Steps};
+use dri_rect::Region;
 use std::alloc::Global;
+use std::marker::Brand;
+use std::sync::ledger::{Blank, Ledger};
+
+// The copy counts a step that nobody asks for.
+fn copy_counted<L: Ledger>(
+    blank: Blank,
+    alloc: Global,
+    clips: &Region,
+) -> Result<Region, OutOfMemory>
+    requires name { blank.name ≡ L.name }
+    requires parts { blank.parts ≡ L.parts }
+    requires one { L.parts ≡ 1 }
+    ensures { IfOk result (λ told. told ≡ clips.now) }
+{
+    clips.copy(alloc, &mut Steps::<L>::new(blank))
+}
+
+/// A client's copy of its clips.
+fn copy_clips(alloc: Global, clips: &Region) -> Result<Region, OutOfMemory>
+    ensures { IfOk result (λ told. told ≡ clips.now) }
+{
+    copy_counted::<Brand>(Blank::new(1), alloc, clips)
+}
 
 impl Shared {
     /// Tells a client its window's stamp, origin and clips.
@@ -27,7 +51,7 @@ impl Shared {
         let told = Told {
             stamp: board.stamp(window),
             origin: board.origin(window),
-            clips: board.clips(window).copy(alloc)?,
+            clips: copy_clips(alloc, board.clips(window))?,
         };
         self.holdings.left = 1;
         self.journal.push_reserved(Entry::Info { client });

@@ -19,7 +19,7 @@ both (Ok touched) change old new ok err has = still_both old new (stack_after ch
 both (Err fault) change old new ok err has = subst HasBoth (sym err) has
 
 pub returns-clause-counter : goal.returns-clause-counter
-returns-clause-counter c = few c.apply.result c.args.change.now c.args.board.now c.apply.new.self c.apply.ensures.ok c.apply.ensures.err (c.arranged.ensures.change c.args.change.now)
+returns-clause-counter g c = few c.apply.result c.args.change.now c.args.board.now c.apply.new.self c.apply.ensures.ok c.apply.ensures.err (c.arranged.ensures.change c.args.change.now)
 
 pub returns-clause-both : goal.returns-clause-both
-returns-clause-both c = both c.apply.result c.args.change.now c.args.board.now c.apply.new.self c.apply.ensures.ok c.apply.ensures.err c.requires.both
+returns-clause-both g c = both c.apply.result c.args.change.now c.args.board.now c.apply.new.self c.apply.ensures.ok c.apply.ensures.err c.requires.both

@@ -14,4 +14,4 @@ both (Ok touched) owner old new ok err has = still_both old new (without_owner o
 both (Err fault) owner old new ok err has = subst HasBoth (sym err) has
 
 pub returns : goal.returns
-returns c = both c.unmap_owner.result c.args.owner c.args.board.now c.unmap_owner.new.self c.unmap_owner.ensures.ok c.unmap_owner.ensures.err c.requires.both
+returns g c = both c.unmap_owner.result c.args.owner c.args.board.now c.unmap_owner.new.self c.unmap_owner.ensures.ok c.unmap_owner.ensures.err c.requires.both

@@ -8,9 +8,9 @@ use Rattle.dri_clips.proofs.Restacking.{without_numbers, without_ranged}
 use Rattle.dri_clips.proofs.board.Board.unmap_owner.Goals as goal
 
 pub restack-requires-clause-ranged : goal.restack-requires-clause-ranged
-restack-requires-clause-ranged c = subst (λ (ws : List Window). All WindowInRange ws) (sym c.in_ok-stack.ensures) (without_ranged c.args.owner c.self.inside.layout.stack c.self.invariant.0.ranged)
+restack-requires-clause-ranged g c = subst (λ (ws : List Window). All WindowInRange ws) (sym c.in_ok-stack.ensures) (without_ranged c.args.owner c.self.inside.layout.stack c.self.invariant.0.ranged)
 
 pub restack-requires-clause-numbers : goal.restack-requires-clause-numbers
-restack-requires-clause-numbers c =
+restack-requires-clause-numbers g c =
     subst (λ (v : Screen). SameNumbers v.stack c.in_ok-stack.stack) c.self.view_is
     (subst (λ (ws : List Window). SameNumbers c.self.inside.layout.stack ws) (sym c.in_ok-stack.ensures) (without_numbers c.args.owner c.self.inside.layout.stack))

@@ -11,18 +11,18 @@ use Rattle.dri_clips.proofs.Walking.{cuts_more, cuts_none}
 use Rattle.dri_clips.proofs.layout.Layout.new.Goals as goal
 
 pub loop-at-init : goal.loop-at-init
-loop-at-init c = cuts_none (has_pixel (screen_rect c.args.width c.args.height)) c.args.stack _ c.in_ok-free.free c.in_ok-clips.ensures.items (λ x y. c.in_ok-free.ensures x y ∙ ap (λ (r : Rect). has_pixel r x y) c.screen.ensures)
+loop-at-init g c = cuts_none (has_pixel (screen_rect c.args.width c.args.height)) c.args.stack _ c.in_ok-free.free c.in_ok-clips.ensures.items (λ x y. c.in_ok-free.ensures.region x y ∙ ap (λ (r : Rect). has_pixel r x y) c.screen.ensures)
 
 pub cut-requires : goal.cut-requires
-cut-requires c = all_get WindowInRange c.args.stack c.loop-at.at c.window.result c.window.ensures c.requires.ranged
+cut-requires g c = all_get WindowInRange c.args.stack c.loop-at.at c.window.result c.window.ensures c.requires.ranged
 
 pub loop-at-preserved : goal.loop-at-preserved
-loop-at-preserved c =
+loop-at-preserved g c =
     rw (take_one c.args.stack c.loop-at.at (c.loop-at.at + 1) c.window.result refl c.window.ensures, c.in_ok-push.ensures.items)
     (cuts_more _ _ _ _ c.window.result c.in_ok-split.split c.loop-at.invariant c.in_ok-split.ensures)
 
 pub returns-clause-layout : goal.returns-clause-layout
-returns-clause-layout c =
+returns-clause-layout g c =
     let whole : take c.loop-at.at c.args.stack ≡ c.args.stack = take_all c.loop-at.at c.args.stack (omega (arith, c.len-at-end.ensures.len, c.loop-at-test.false)) in
     record {
       wide = c.requires.wide;

@@ -35,7 +35,7 @@ invariant_of-result c =
       bound = λ t is. absurd (let none = ap (λ (x : State). x.bound) c.new-2.ensures.state in cc);
       inside = inside_none _ _ c.in_ok-placed.ensures.placed;
       roomy = c.in_ok-placed.ensures.textures;
-      copy = subst (λ (rs : List Rect). IsCopyOf rs (copy_of rs)) (sym c.empty.ensures) copied_none;
+      copy = subst (λ (rs : List Rect). IsCopyOf rs (copy_of rs)) (sym c.no_clips.ensures) copied_none;
     }
 
 pub returns-clause-part : goal.returns-clause-part
@@ -46,4 +46,4 @@ returns-clause-part c =
     subst (λ (ps : List ClientScript). slice_get ps i ≡ Some (script_in ps c.args.client)) (c.as_slice.ensures ∙ ap (λ (x : Scene). x.clients) c.deref.ensures) c.index_of-index.ensures in
     let script : c.get.result.now ≡ script_of s c.args.client = some_same _ _ (sym c.get.ensures ∙ (ap (λ (x : Scene). slice_get x.clients i) c.deref-2.ensures ∙ there)) in
     let phase = c.first-activity.ensures ∙ ap first_phase (c.as_slice-2.ensures ∙ ap (λ (p : ClientScript). p.commands) script) in
-    same_part _ (opening_part (commands_of s c.args.client)) refl phase refl (ap copy_of c.empty.ensures) refl c.new-2.ensures.state c.new-2.ensures.dirty c.in_ok-placed.ensures.placed refl
+    same_part _ (opening_part (commands_of s c.args.client)) refl phase refl (ap copy_of c.no_clips.ensures) refl c.new-2.ensures.state c.new-2.ensures.dirty c.in_ok-placed.ensures.placed refl

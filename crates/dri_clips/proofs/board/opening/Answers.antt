@@ -1,12 +1,12 @@
 use Rattle.std.proofs.Common.{◌∙◌, refl}
 use Rattle.dri_clips.proofs.Placing.{apart_pairs, ones}
-use Rattle.dri_clips.proofs.board.Board.new.Goals as goal
+use Rattle.dri_clips.proofs.board.opening.Goals as goal
 
 pub from_windows-requires : goal.from_windows-requires
-from_windows-requires c = rw c.as_slice.ensures (apart_pairs c.args.scene.now.windows c.requires.windowed.apart)
+from_windows-requires g c = rw c.as_slice.ensures (apart_pairs c.args.scene.now.windows c.requires.scene.windowed.apart)
 
 pub returns : goal.returns
-returns c = record {
+returns g c = record {
   width = c.in_ok-new.ensures.width;
   height = c.in_ok-new.ensures.height;
   root = refl;
