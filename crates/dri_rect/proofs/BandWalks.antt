@@ -1,6 +1,6 @@
 -- The walk over the bands of two regions.
 use Rattle.std.proofs.Common.{◌≡◌, ℕ, List, [], ◌∷◌, ◌++◌, Bool, true, false, arith, refl, sym, ◌∙◌, inl, inr, ap, subst, append_assoc, get_or}
-use Rattle.std.specs.Prelude.{ℤ, pos, negsuc, ◌<ℤ◌, ◌≤ℤ◌, ◌-ℤ◌, ◌⊎◌, ◌&&◌, ◌||◌, int_lt, int_le, unsigned_abs, ◌<◌, take, drop, ◌≤◌, length, ◌+◌, zero, suc}
+use Rattle.std.specs.Prelude.{ℤ, pos, negsuc, ◌<ℤ◌, ◌≤ℤ◌, ◌-ℤ◌, ◌⊎◌, ◌&&◌, ◌||◌, int_lt, int_le, unsigned_abs, ◌<◌, take, drop, ◌≤◌, length, ◌+◌, zero, suc, if◌then◌else◌}
 use Rattle.std.specs.Ordering.{int_eq}
 use Rattle.std.specs.List.{AllByRecursion}
 use Rattle.std.proofs.lemmas.Int.{ints, by_lt_z}
@@ -8,10 +8,12 @@ use Rattle.std.proofs.lemmas.Bool.{true≢false, and_parts}
 use Rattle.std.proofs.lemmas.Bool.Decides.{Decides-int_eq}
 use Rattle.dri_base.specs.declared.shape.Rect.{Rect}
 use Rattle.dri_rect.specs.declared.operation.Operation.{Operation}
+use Rattle.dri_rect.specs.declared.operation.Operation.TheVariants.{Unite, Subtract, Intersect}
 use Rattle.dri_rect.specs.Pixels.{In, in_columns, in_lines, inside, IsProper, Follows, IsBanded, IsTopped, IsCanonical, least, most}
-use Rattle.dri_rect.specs.Walk.{row, answer, Apart, FitsAcross, IsRow, Fits, Bounded, IsLesser, rectangle, IsCombined, both_empty, Split, Ends, AheadDown, ReachesDown, IsBands, StretchDown, LaterDown, placed, same_columns, settled, settled_row, settled_top, CutsBand, IsCut, Built, BandWalk, IsAnswer, begins}
+use Rattle.dri_rect.specs.Walk.{row, answer, Apart, FitsAcross, IsRow, Fits, Bounded, IsLesser, rectangle, IsCombined, both_empty, is_done, Split, Ends, AheadDown, ReachesDown, IsBands, StretchDown, LaterDown, placed, same_columns, settled, settled_row, settled_top, CutsBand, IsCut, Built, BandWalk, IsAnswer, begins, Added, Placing, joined, joined_start, lowered, IsLevel}
 use Rattle.dri_rect.proofs.Unique.{found, proper, each, one_band, unique}
 use Rattle.dri_rect.proofs.RowWalks.{all_weaker, all_append, row_further, row_smaller, nothing}
+use Rattle.dri_rect.proofs.Placed.{length_append, take_front, drop_front}
 
 or_same : (a b c : Bool) → (a || b) || c ≡ a || (b || c)
 or_same true b c = refl
@@ -336,8 +338,16 @@ bottoms r rs xs ys b k = all_in (λ s. s.y2 ≡ r.y2) xs (λ s i. at s (each (λ
         down : s.y1 <ℤ s.y2
         down = (proper (r ∷ rs) s b j).down
 
+level_of : (t b : ℤ) (rs : List Rect) → AllByRecursion (λ r. r.y1 ≡ t) rs → AllByRecursion (λ r. r.y2 ≡ b) rs → IsLevel rs
+level_of t b [] p q = tt
+level_of t b (r ∷ rs) p q = go rs p.1 q.1
+  where
+    go : (ss : List Rect) → AllByRecursion (λ s. s.y1 ≡ t) ss → AllByRecursion (λ s. s.y2 ≡ b) ss → AllByRecursion (λ s. (s.y1 ≡ r.y1) × (s.y2 ≡ r.y2)) ss
+    go [] u v = tt
+    go (s ∷ ss) u v = ((u.0 ∙ sym p.0, v.0 ∙ sym q.0), go ss u.1 v.1)
+
 pub stretch_down_none : (y : ℤ) → y ≤ℤ most → StretchDown [] y [] (pos 4097)
-stretch_down_none y l = record { longer = omega (arith, ints); steady = λ x z a b. refl; reaches = tt; bounded = tt; is_row = record { apart = tt; fits = tt } }
+stretch_down_none y l = record { longer = omega (arith, ints); steady = λ x z a b. refl; reaches = tt; bounded = tt; is_row = record { apart = tt; fits = tt }; level = tt }
 
 pub stretch_down_in : (r : Rect) (rs xs ys : List Rect) (y : ℤ) → IsBands (r ∷ rs) → y <ℤ r.y2 → r.y1 ≤ℤ y → Split (r ∷ rs) xs ys r.y1 → StretchDown (r ∷ rs) y xs r.y2
 stretch_down_in r rs xs ys y i a l k = record {
@@ -346,6 +356,7 @@ stretch_down_in r rs xs ys y i a l k = record {
   reaches = omega (arith, ints);
   bounded = i.range.0.bottom;
   is_row = record { apart = apart_band r.y1 xs (banded_left xs ys (subst IsBanded k.whole i.banded)) k.band; fits = all_weaker Fits FitsAcross xs (λ s h. record { left = h.left; right = h.right }) (all_left Fits xs ys (subst (AllByRecursion Fits) k.whole i.range)) };
+  level = level_of r.y1 r.y2 xs k.band (bottoms r rs xs ys i.banded k);
 }
 
 pub stretch_down_out : (r : Rect) (rs : List Rect) (y : ℤ) → IsBands (r ∷ rs) → y <ℤ r.y1 → StretchDown (r ∷ rs) y [] r.y1
@@ -355,6 +366,7 @@ stretch_down_out r rs y i l = record {
   reaches = omega (arith, ints, i.banded.0.down);
   bounded = omega (arith, ints, i.banded.0.down, i.range.0.bottom);
   is_row = record { apart = tt; fits = tt };
+  level = tt;
 }
   where
     by : (s : Rect) → Follows r s → r.y1 ≤ℤ s.y1
@@ -440,20 +452,33 @@ band_smaller first second one other y e f m e' f' m' s t some l ee ef em =
     lesser : IsLesser e f m
     lesser = subst (λ k. IsLesser k f m) ee (subst (λ k. IsLesser e' k m) ef l)
 
-ended : (op : Operation) (a b out pending : List Rect) (top y : ℤ) → BandWalk op a b [] [] out pending top y → IsAnswer op a b (out ++ placed top y pending)
-ended op a b out pending top y w = record {
+-- nothing comes of what is left
+none : (op : Operation) (rs ss : List Rect) → is_done op rs ss ≡ true → (x z : ℤ) → answer op (inside rs x z) (inside ss x z) ≡ false
+none Unite [] [] d x z = refl
+none Unite [] (s ∷ ss) d x z = absurd (true≢false (sym d))
+none Unite (r ∷ rs) ss d x z = absurd (true≢false (sym d))
+none Subtract [] ss d x z = refl
+none Subtract (r ∷ rs) ss d x z = absurd (true≢false (sym d))
+none Intersect [] ss d x z = refl
+none Intersect (r ∷ rs) [] d x z = and_false (inside (r ∷ rs) x z)
+none Intersect (r ∷ rs) (s ∷ ss) d x z = absurd (true≢false (sym d))
+
+pub no_answer : (op : Operation) (a b out : List Rect) → is_done op a b ≡ true → out ≡ [] → IsAnswer op a b out
+no_answer op a b out d e = rw e (record {
+  canonical = record { banded = tt; topped = λ r i. absurd i };
+  range = tt;
+  right = λ x z. sym (none op a b d x z);
+})
+
+pub band_done : (op : Operation) (a b first second out pending : List Rect) (top y : ℤ) → BandWalk op a b first second out pending top y → is_done op first second ≡ true → IsAnswer op a b (out ++ placed top y pending)
+band_done op a b first second out pending top y w e = record {
   canonical = f.canonical;
   range = f.range;
-  right = λ x z. by_lt_z z y (λ h. f.right x z h) (λ h. rw (above_line _ y x z f.above h, w.on_first.same x z h, w.on_second.same x z h) (sym (nothing op)));
+  right = λ x z. by_lt_z z y (λ h. f.right x z h) (λ h. rw (above_line _ y x z f.above h, w.on_first.same x z h, w.on_second.same x z h) (sym (none op first second e x z)));
 }
   where
     f : Flushed (out ++ placed top y pending) y (λ x z. answer op (inside a x z) (inside b x z))
     f = flushed out pending top y (λ x z. answer op (inside a x z) (inside b x z)) w.built w.high
-
-pub band_end : (op : Operation) (a b first second out pending : List Rect) (top y : ℤ) → BandWalk op a b first second out pending top y → both_empty first second ≡ true → IsAnswer op a b (out ++ placed top y pending)
-band_end op a b [] [] out pending top y w e = ended op a b out pending top y w
-band_end op a b [] (s ∷ ss) out pending top y w e = absurd (true≢false (sym e))
-band_end op a b (r ∷ rs) ss out pending top y w e = absurd (true≢false (sym e))
 
 -- one more rectangle of a row is placed
 pub placed_at : (out line items pushed : List Rect) (n : ℕ) (t b : ℤ) (d : Rect) (x1 x2 : ℤ) → n < length line → items ≡ out ++ placed t b (take n line) → x1 ≡ (get_or line n d).x1 → x2 ≡ (get_or line n d).x2
@@ -520,6 +545,14 @@ over_whole [] ab [] bb k l = rw (k, l) refl
 over_whole [] ab (s ∷ ss) bb k l = rw k refl
 over_whole (r ∷ rs) ab bf bb k l = refl
 
+pub done_whole : (op : Operation) (af ab bf bb : List Rect) → CutsBand af ab → CutsBand bf bb → is_done op af bf ≡ is_done op (af ++ ab) (bf ++ bb)
+done_whole Unite af ab bf bb k l = over_whole af ab bf bb k l
+done_whole Subtract [] ab bf bb k l = rw k refl
+done_whole Subtract (r ∷ rs) ab bf bb k l = refl
+done_whole Intersect [] ab bf bb k l = rw k refl
+done_whole Intersect (r ∷ rs) ab [] bb k l = rw l refl
+done_whole Intersect (r ∷ rs) ab (s ∷ ss) bb k l = refl
+
 pub first_ahead : (first below : List Rect) (y : ℤ) → AheadDown (first ++ below) y → CutsBand first below → AheadDown first y
 first_ahead [] below y a k = tt
 first_ahead (r ∷ rs) below y a k = a
@@ -539,3 +572,81 @@ reaches_line first below e e' f' m k r same l = first_reaches first below m (rea
 
 pub reaches_line_too : (first below : List Rect) (f e' f' m : ℤ) → CutsBand first below → ReachesDown (first ++ below) f → f' ≡ f → IsLesser e' f' m → ReachesDown first m
 reaches_line_too first below f e' f' m k r same l = first_reaches first below m (reaches_down_less (first ++ below) f m r (subst (λ (n : ℤ). m ≤ℤ n) same l.second)) k
+
+-- the open row stands last in the list that is written
+same_placed : (t b t' b' : ℤ) (ps ns : List Rect) → same_columns (placed t b ps) (placed t' b' ns) ≡ same_columns ps ns
+same_placed t b t' b' [] [] = refl
+same_placed t b t' b' [] (n ∷ ns) = refl
+same_placed t b t' b' (p ∷ ps) [] = refl
+same_placed t b t' b' (p ∷ ps) (n ∷ ns) = ap (λ k. int_eq p.x1 n.x1 && (int_eq p.x2 n.x2 && k)) (same_placed t b t' b' ps ns)
+
+lowered_placed : (t b b' : ℤ) (ps : List Rect) → lowered b' (placed t b ps) ≡ placed t b' ps
+lowered_placed t b b' [] = refl
+lowered_placed t b b' (p ∷ ps) = ap (λ k. rectangle p.x1 t p.x2 b' ∷ k) (lowered_placed t b b' ps)
+
+pub placing_start : (op : Operation) (a b af ab bf bb : List Rect) → IsBands a → IsBands b → IsCut a af ab → IsCut b bf bb → Placing op a b (af ++ ab) (bf ++ bb) [] 0 least
+placing_start op a b af ab bf bb i j k l = record { out = []; pending = []; top = negsuc 4096; whole = refl; place = refl; walk = band_start_cut op a b af ab bf bb i j k l }
+
+-- where the open row begins, and ends, once a row is added
+pub placing_start_in : (op : Operation) (a b first second items added : List Rect) (start : ℕ) (y t u : ℤ) (S : ℤ → Bool) → Placing op a b first second items start y → Added items added t u S
+    → (start ≤ length items) × (length items ≤ length added)
+placing_start_in op a b first second items added start y t u S p d =
+    (omega (arith, p.place, ap length p.whole, length_append p.out (placed p.top y p.pending)), omega (arith, ap length d.items, length_append items (placed t u d.fresh)))
+
+pub placing_step : (op : Operation) (a b first second items : List Rect) (start : ℕ) (y : ℤ) → Placing op a b first second items start y
+    → (one other : List Rect) (e f m e' f' m' : ℤ) → StretchDown first y one e → StretchDown second y other f → both_empty first second ≡ false → IsLesser e' f' m → e' ≡ e → f' ≡ f → m' ≡ m
+    → (left right : List Rect) → LaterDown first left m' → LaterDown second right m'
+    → (added items' : List Rect) (start' n : ℕ) → Added items added y m' (λ z. answer op (row one z) (row other z)) → n ≡ length items → items' ≡ joined added start n m' → start' ≡ joined_start added start n
+    → Placing op a b left right items' start' m'
+placing_step op a b first second items start y p one other e f m e' f' m' s t some l ee ef em left right u v added items' start' n d en ei es = by (same_columns p.pending d.fresh) refl
+  where
+    walk : BandWalk op a b left right (settled p.out p.pending d.fresh p.top y) (settled_row p.pending d.fresh) (settled_top p.pending d.fresh p.top y) m'
+    walk = band_step op a b first second p.out p.pending p.top y p.walk one other e f m e' f' m' s t some l ee ef em left right u v d.fresh _ _ _ (record { is_row = d.is_row; right = d.right }) refl refl refl
+
+    taken : take n added ≡ items
+    taken = rw d.items (take_front items (placed y m' d.fresh) n (sym en))
+
+    dropped : drop n added ≡ placed y m' d.fresh
+    dropped = rw d.items (drop_front items (placed y m' d.fresh) n (sym en))
+
+    row_before : drop start items ≡ placed p.top y p.pending
+    row_before = rw p.whole (drop_front p.out (placed p.top y p.pending) start (sym p.place))
+
+    before : take start items ≡ p.out
+    before = rw p.whole (take_front p.out (placed p.top y p.pending) start (sym p.place))
+
+    test : same_columns (drop start (take n added)) (drop n added) ≡ same_columns p.pending d.fresh
+    test = rw (taken, dropped, row_before) (same_placed p.top y y m' p.pending d.fresh)
+
+    by : (k : Bool) → same_columns p.pending d.fresh ≡ k → Placing op a b left right items' start' m'
+    by true h = record {
+      out = p.out;
+      pending = p.pending;
+      top = p.top;
+      whole = ei ∙ joined_same;
+      place = es ∙ (start_same ∙ p.place);
+      walk = subst (λ k. BandWalk op a b left right (if k then p.out else (p.out ++ placed p.top y p.pending)) (if k then p.pending else d.fresh) (if k then p.top else y) m') h walk;
+    }
+      where
+        joined_same : joined added start n m' ≡ p.out ++ placed p.top m' p.pending
+        joined_same = rw (test ∙ h, taken, before, row_before) (ap (λ k. p.out ++ k) (lowered_placed p.top y m' p.pending))
+
+        start_same : joined_start added start n ≡ start
+        start_same = rw (test ∙ h) refl
+    by false h = record {
+      out = p.out ++ placed p.top y p.pending;
+      pending = d.fresh;
+      top = y;
+      whole = ei ∙ (joined_other ∙ (d.items ∙ ap (λ k. k ++ placed y m' d.fresh) p.whole));
+      place = es ∙ (start_other ∙ (en ∙ ap length p.whole));
+      walk = subst (λ k. BandWalk op a b left right (if k then p.out else (p.out ++ placed p.top y p.pending)) (if k then p.pending else d.fresh) (if k then p.top else y) m') h walk;
+    }
+      where
+        joined_other : joined added start n m' ≡ added
+        joined_other = rw (test ∙ h) refl
+
+        start_other : joined_start added start n ≡ n
+        start_other = rw (test ∙ h) refl
+
+pub placing_done : (op : Operation) (a b first second items : List Rect) (start : ℕ) (y : ℤ) → Placing op a b first second items start y → is_done op first second ≡ true → IsAnswer op a b items
+placing_done op a b first second items start y p d = subst (IsAnswer op a b) (sym p.whole) (band_done op a b first second p.out p.pending p.top y p.walk d)

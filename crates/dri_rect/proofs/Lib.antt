@@ -3,3 +3,4 @@ pub mod RowWalks
 pub mod BandWalks
 pub mod Regions
 pub mod Arrangement
+pub mod Placed

@@ -1,7 +1,6 @@
 -- What the walks over two rows, and over the bands of two regions, keep and answer.
-use Rattle.std.specs.Prelude.{ℤ, pos, List, [], ◌∷◌, ◌++◌, ◌≡◌, ◌≢◌, ◌<ℤ◌, ◌≤ℤ◌, ◌-ℤ◌, ◌⊎◌, Bool, true, false, ◌&&◌, ◌||◌, not, Some, None, map, int_le, if◌then◌else◌}
+use Rattle.std.specs.Prelude.{ℤ, pos, List, [], ◌∷◌, ◌++◌, ◌≡◌, ◌≢◌, ◌<ℤ◌, ◌≤ℤ◌, ◌-ℤ◌, ◌⊎◌, ℕ, ◌+◌, length, take, drop, Bool, true, false, ◌&&◌, ◌||◌, not, map, int_le, int_lt, if◌then◌else◌}
 use Rattle.std.specs.Ordering.{int_eq}
-use Rattle.std.specs.declared.option.Option.{Option}
 use Rattle.std.specs.List.{AllByRecursion}
 use Rattle.dri_base.specs.declared.shape.Rect.{Rect}
 use Rattle.dri_rect.specs.declared.operation.Operation.{Operation}
@@ -56,10 +55,11 @@ abbrev pub Bounded : List Rect → ℤ → Type 0
 Bounded [] x = Unit {0}
 Bounded (r ∷ rs) x = x ≤ℤ most
 
--- from x up to, and without, the end the row is the same
-pub record Stretch (rs : List Rect) (x : ℤ) (is_in : Bool) (end : ℤ) : Type 0 where
+-- from x up to, and without, the end the row has the columns from start on
+pub record Next (rs : List Rect) (x start end : ℤ) : Type 0 where
   pub longer : x <ℤ end
-  pub steady : (z : ℤ) → x ≤ℤ z → z <ℤ end → row rs z ≡ is_in
+  pub right : (z : ℤ) → x ≤ℤ z → z <ℤ end → row rs z ≡ int_le start z
+  pub low : least ≤ℤ start
   pub reaches : Reaches rs end
   pub bounded : Bounded rs end
 
@@ -79,39 +79,70 @@ pub record IsLesser (a b c : ℤ) : Type 0 where
 abbrev pub rectangle : ℤ → ℤ → ℤ → ℤ → Rect
 rectangle x1 y1 x2 y2 = record { x1 = x1; y1 = y1; x2 = x2; y2 = y2 }
 
--- the rectangles that end before column x: the one that is begun ends there where x isn't in the answer
-abbrev pub closed : List Rect → Option ℤ → Bool → ℤ → List Rect
-closed out (Some start) false x = out ++ (rectangle start (pos 0) x (pos 1) ∷ [])
-closed out (Some start) true x = out
-closed out None b x = out
+-- the lesser and the greater of two numbers
+abbrev pub lesser_of : ℤ → ℤ → ℤ
+lesser_of a b = if int_lt a b then a else b
 
--- where the rectangle begins that holds column x, if x is in the answer
-abbrev pub opened : Option ℤ → Bool → ℤ → Option ℤ
-opened begun false x = None
-opened (Some start) true x = Some start
-opened None true x = Some x
+abbrev pub greater_of : ℤ → ℤ → ℤ
+greater_of a b = if int_lt a b then b else a
 
--- the rectangle that is begun has the column z
-abbrev pub is_open_at : Option ℤ → ℤ → Bool
-is_open_at None z = false
-is_open_at (Some start) z = int_le start z
+-- where the answer begins, from x on, if the two rows begin at s and t
+abbrev pub start_of : Operation → ℤ → ℤ → ℤ → ℤ
+start_of Unite x s t = greater_of x (lesser_of s t)
+start_of Subtract x s t = greater_of x s
+start_of Intersect x s t = greater_of x (greater_of s t)
 
--- what is written ends before the one that is begun, or before x, without touching
-abbrev pub Before : List Rect → Option ℤ → ℤ → Type 0
-Before out None x = AllByRecursion (λ r. r.x2 <ℤ x) out
-Before out (Some start) x = AllByRecursion (λ r. r.x2 <ℤ start) out × (start <ℤ x) × (least ≤ℤ start)
+-- where it ends, at the end of the first of the two that ends, or before
+abbrev pub end_of : Operation → ℤ → ℤ → ℤ
+end_of Unite t end = end
+end_of Subtract t end = lesser_of t end
+end_of Intersect t end = end
 
--- what is written of the row S up to the column x
-pub record Written (out : List Rect) (begun : Option ℤ) (x : ℤ) (S : ℤ → Bool) : Type 0 where
-  pub is_row : IsRow out
-  pub before : Before out begun x
-  pub right : (z : ℤ) → z <ℤ x → (row out z || is_open_at begun z) ≡ S z
+-- the columns from x1 up to, and without, x2, if there are any
+abbrev pub columns : ℤ → ℤ → List Rect
+columns x1 x2 = if int_lt x1 x2 then (rectangle x1 (pos 0) x2 (pos 1) ∷ []) else []
+
+-- what is written with these columns put last
+abbrev pub put : List Rect → ℤ → ℤ → ℤ → ℤ → List Rect
+put out top bottom x1 x2 = if int_lt x1 x2 then (out ++ (rectangle x1 top x2 bottom ∷ [])) else out
+
+-- what is written where the columns from a to b are open, and those from x1 to x2 come
+abbrev pub gone_on : List Rect → ℤ → ℤ → ℤ → ℤ → ℤ → ℤ → List Rect
+gone_on out top bottom a b x1 x2 = if int_le x2 x1 then out else (if int_eq x1 b then out else put out top bottom a b)
+
+-- where the columns begin, and end, that are open from then on
+abbrev pub opened : ℤ → ℤ → ℤ → ℤ → ℤ
+opened a b x1 x2 = if int_le x2 x1 then a else (if int_eq x1 b then a else x1)
+
+abbrev pub open_to : ℤ → ℤ → ℤ → ℤ
+open_to b x1 x2 = if int_le x2 x1 then b else x2
+
+-- the row between two lines
+abbrev pub placed : ℤ → ℤ → List Rect → List Rect
+placed top bottom rs = map (λ r. rectangle r.x1 top r.x2 bottom) rs
+
+-- a row is written behind what was there
+pub record Added (old out : List Rect) (top bottom : ℤ) (S : ℤ → Bool) : Type 0 where
+  pub fresh : List Rect
+  pub items : out ≡ old ++ placed top bottom fresh
+  pub is_row : IsRow fresh
+  pub right : (z : ℤ) → row fresh z ≡ S z
+
+-- what is written of the row S up to the column x, with the columns from a to b open
+pub record Written (old out : List Rect) (top bottom a b x : ℤ) (S : ℤ → Bool) : Type 0 where
+  pub fresh : List Rect
+  pub items : out ≡ old ++ placed top bottom fresh
+  pub is_row : IsRow fresh
+  pub before : AllByRecursion (λ r. r.x2 <ℤ a) fresh
+  pub order : (a ≤ℤ b) × (b ≤ℤ x)
+  pub low : least ≤ℤ a
+  pub right : (z : ℤ) → z <ℤ x → (row fresh z || (int_le a z && int_lt z b)) ≡ S z
 
 -- what the walk over two rows keeps
-pub record RowWalk (op : Operation) (a b first second out : List Rect) (begun : Option ℤ) (x : ℤ) : Type 0 where
-  pub on_first : Later a first x
-  pub on_second : Later b second x
-  pub written : Written out begun x (λ z. answer op (row a z) (row b z))
+pub record RowWalk (op : Operation) (one other first second old out : List Rect) (top bottom a b x : ℤ) : Type 0 where
+  pub on_first : Later one first x
+  pub on_second : Later other second x
+  pub written : Written old out top bottom a b x (λ z. answer op (row one z) (row other z))
   pub low : least ≤ℤ x
   pub high : x ≤ℤ most
 
@@ -125,6 +156,15 @@ abbrev pub both_empty : List Rect → List Rect → Bool
 both_empty [] [] = true
 both_empty [] (s ∷ ss) = false
 both_empty (r ∷ rs) ss = false
+
+-- nothing more can come of what is left of both
+abbrev pub is_done : Operation → List Rect → List Rect → Bool
+is_done Unite rs ss = both_empty rs ss
+is_done Subtract [] ss = true
+is_done Subtract (r ∷ rs) ss = false
+is_done Intersect [] ss = true
+is_done Intersect (r ∷ rs) [] = true
+is_done Intersect (r ∷ rs) (s ∷ ss) = false
 
 -- the first rectangle begins on this line
 abbrev pub begins : List Rect → ℤ → Bool
@@ -167,6 +207,11 @@ pub record IsCut (rs first below : List Rect) : Type 0 where
   pub whole : rs ≡ first ++ below
   pub cuts : CutsBand first below
 
+-- rectangles between the same two lines
+abbrev pub IsLevel : List Rect → Type 0
+IsLevel [] = Unit {0}
+IsLevel (r ∷ rs) = AllByRecursion (λ s. (s.y1 ≡ r.y1) × (s.y2 ≡ r.y2)) rs
+
 -- from the line y up to, and without, the end each line is this row
 pub record StretchDown (rs : List Rect) (y : ℤ) (band : List Rect) (end : ℤ) : Type 0 where
   pub longer : y <ℤ end
@@ -174,16 +219,13 @@ pub record StretchDown (rs : List Rect) (y : ℤ) (band : List Rect) (end : ℤ)
   pub reaches : ReachesDown rs end
   pub bounded : Bounded rs end
   pub is_row : IsRow band
+  pub level : IsLevel band
 
 -- from the line y on the bands ts are the bands rs
 pub record LaterDown (rs ts : List Rect) (y : ℤ) : Type 0 where
   pub is_bands : IsBands ts
   pub ahead : AheadDown ts y
   pub same : (x z : ℤ) → y ≤ℤ z → inside rs x z ≡ inside ts x z
-
--- the row between two lines
-abbrev pub placed : ℤ → ℤ → List Rect → List Rect
-placed top bottom rs = map (λ r. rectangle r.x1 top r.x2 bottom) rs
 
 -- two rows have the same columns
 abbrev pub same_columns : List Rect → List Rect → Bool
@@ -222,6 +264,36 @@ pub record BandWalk (op : Operation) (a b first second out pending : List Rect) 
   pub built : Built out pending top y (λ x z. answer op (inside a x z) (inside b x z))
   pub low : least ≤ℤ y
   pub high : y ≤ℤ most
+
+-- the same in one list, where the open row stands last, from a place on, and ends at y so far
+pub record Placing (op : Operation) (a b first second items : List Rect) (start : ℕ) (y : ℤ) : Type 0 where
+  pub out : List Rect
+  pub pending : List Rect
+  pub top : ℤ
+  pub whole : items ≡ out ++ placed top y pending
+  pub place : start ≡ length out
+  pub walk : BandWalk op a b first second out pending top y
+
+-- the row with another last line
+abbrev pub lowered : ℤ → List Rect → List Rect
+lowered bottom rs = map (λ r. rectangle r.x1 r.y1 r.x2 bottom) rs
+
+-- the rows from start on get another last line: those before place i have it
+pub record Lowering (old now : List Rect) (start i : ℕ) (bottom : ℤ) : Type 0 where
+  pub front : List Rect
+  pub done : List Rect
+  pub rest : List Rect
+  pub whole : old ≡ front ++ (done ++ rest)
+  pub items : now ≡ (front ++ lowered bottom done) ++ rest
+  pub begins : length front ≡ start
+  pub place : i ≡ start + length done
+
+-- the last two rows begin at start and at fresh: what they become, and where the last row begins then
+abbrev pub joined : List Rect → ℕ → ℕ → ℤ → List Rect
+joined out start fresh bottom = if same_columns (drop start (take fresh out)) (drop fresh out) then (take start (take fresh out) ++ lowered bottom (drop start (take fresh out))) else out
+
+abbrev pub joined_start : List Rect → ℕ → ℕ → ℕ
+joined_start out start fresh = if same_columns (drop start (take fresh out)) (drop fresh out) then start else fresh
 
 -- the set operation, in the one list that it has
 pub record IsAnswer (op : Operation) (a b out : List Rect) : Type 0 where

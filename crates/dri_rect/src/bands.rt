@@ -1,11 +1,11 @@
 //! The walk down the bands of two regions.
 
-ghost use Rattle.std.specs.Prelude.{◌≡◌, [], ◌++◌, ◌≤ℤ◌, OnOk, OnErr, IfOk, drop, ◌≤◌, length};
+ghost use Rattle.std.specs.Prelude.{◌≡◌, ◌++◌, ◌≤ℤ◌, IfOk, take, drop, ◌≤◌, length, vec_len};
 ghost use Rattle.dri_rect.specs.Pixels.{most};
-ghost use Rattle.dri_rect.specs.Walk.{IsBands, IsCut, CutsBand, IsAnswer, Split, StretchDown, LaterDown, ReachesDown, AheadDown, placed, settled, settled_row, settled_top, begins};
+ghost use Rattle.dri_rect.specs.Walk.{IsBands, IsCut, CutsBand, IsAnswer, Split, StretchDown, LaterDown, ReachesDown, AheadDown, lowered, joined, joined_start, same_columns, begins};
 
 use crate::operation::Operation;
-use crate::rows::{BEHIND, LEAST, combine_rows, is_over, is_same_row, lesser};
+use crate::rows::{BEHIND, LEAST, combine_rows, is_done, is_same_row, lesser};
 use dri_base::{OutOfMemory, Rect};
 use std::alloc::Global;
 
@@ -95,42 +95,46 @@ fn pass(bands: Bands<'_>, y: i32) -> Bands<'_>
     }
 }
 
-/// Puts a row last, as the band between two lines.
-fn place(into: &mut Vec<Rect>, row: &[Rect], top: i32, bottom: i32) -> Result<(), OutOfMemory>
-    ensures { OnOk result (into.new.items ≡ into.old.items ++ placed top bottom row.now) }
+/// The bands with another last line.
+fn lower(out: &mut Vec<Rect>, start: usize, bottom: i32)
+    requires { start ≤ vec_len out.old }
+    ensures { out.new.items ≡ take start out.old.items ++ lowered bottom (drop start out.old.items) }
 {
-    for rect in row {
-        into.push(Rect {
-            x1: rect.x1,
-            y1: top,
-            x2: rect.x2,
-            y2: bottom,
-        })?;
+    let mut i = start;
+    while i < out.len() {
+        out[i].y2 = bottom;
+        i += 1;
     }
-    Ok(())
 }
 
-/// Goes on with a row at a line: where it isn't the open one, the open one ends there. Answers the open row's first line.
-fn settle(
-    out: &mut Vec<Rect>,
-    pending: &mut Vec<Rect>,
-    fresh: &mut Vec<Rect>,
-    top: i32,
-    y: i32,
-) -> Result<i32, OutOfMemory>
-    ensures out { OnOk result (out.new.items ≡ settled out.old.items pending.old.items fresh.old.items top y) }
-    ensures pending { OnOk result (pending.new.items ≡ settled_row pending.old.items fresh.old.items) }
-    ensures top { IfOk result (λ line. line ≡ settled_top pending.old.items fresh.old.items top y) }
+/// Whether the last row, which begins at a place, has the columns of the row before it, which begins at another.
+fn repeats(out: &[Rect], start: usize, fresh: usize) -> bool
+    requires start { start ≤ fresh }
+    requires fresh { fresh ≤ length out.now }
+    ensures { result ≡ same_columns (drop start (take fresh out.now)) (drop fresh out.now) }
 {
-    if is_same_row(pending.as_slice(), fresh.as_slice()) {
-        return Ok(top);
-    }
-    place(out, pending.as_slice(), top, y)?;
-    std::mem::swap(pending, fresh);
-    Ok(y)
+    let (front, last) = out.split_at(fresh);
+    is_same_row(front.split_at(start).1, last)
 }
 
-/// The operation on two regions, by one walk over the bands of both.
+/// Makes one band of the last two, where they have the same columns. Answers where the last band begins.
+fn settle(out: &mut Vec<Rect>, start: usize, fresh: usize, bottom: i32) -> usize
+    requires start { start ≤ fresh }
+    requires fresh { fresh ≤ vec_len out.old }
+    ensures items { out.new.items ≡ joined out.old.items start fresh bottom }
+    ensures start { result ≡ joined_start out.old.items start fresh }
+{
+    if repeats(out.as_slice(), start, fresh) {
+        out.truncate(fresh);
+        lower(out, start, bottom);
+        start
+    } else {
+        fresh
+    }
+}
+
+/// The operation on two regions, by one walk over the bands of both. Where nothing can come it takes no memory.
+#[tactic(auto, using(crate::proofs::BandWalks::no_answer))]
 pub fn combine(
     alloc: Global,
     operation: Operation,
@@ -141,22 +145,24 @@ pub fn combine(
     requires second { IsBands second.now }
     ensures { IfOk result (λ out. IsAnswer operation first.now second.now out.items) }
 {
+    if is_done(operation, first, second) {
+        return Ok(Vec::new(alloc));
+    }
     let mut out = Vec::with_capacity(alloc, first.len() + second.len())?;
-    let mut pending = Vec::new(alloc);
-    let mut fresh = Vec::new(alloc);
     let mut above = bands_of(first);
     let mut below = bands_of(second);
-    let mut top = LEAST - 1;
+    let mut start = 0;
     let mut y = LEAST;
-    while !is_over(above.first, below.first) {
+    while !is_done(operation, above.first, below.first) {
         let (one, one_end) = row_at(above, y);
         let (other, other_end) = row_at(below, y);
-        combine_rows(operation, one, other, &mut fresh)?;
-        top = settle(&mut out, &mut pending, &mut fresh, top, y)?;
-        y = lesser(one_end, other_end);
+        let bottom = lesser(one_end, other_end);
+        let fresh = out.len();
+        combine_rows(operation, one, other, y, bottom, &mut out)?;
+        start = settle(&mut out, start, fresh, bottom);
+        y = bottom;
         above = pass(above, y);
         below = pass(below, y);
     }
-    place(&mut out, pending.as_slice(), top, y)?;
     Ok(out)
 }

@@ -1,9 +1,9 @@
 //! The walk to the right over two rows of columns. A row is a list of rectangles from left to right that don't touch;
-//! their lines are not looked at, and what is written has the lines 0 to 1.
+//! the lines of the two are not looked at, and what is written has the lines that are given.
 
-ghost use Rattle.std.specs.Prelude.{◌≡◌, ◌≤ℤ◌, OnOk, IfOk};
+ghost use Rattle.std.specs.Prelude.{◌≡◌, ◌++◌, ◌≤ℤ◌, OnOk, IfOk};
 ghost use Rattle.dri_rect.specs.Pixels.{most};
-ghost use Rattle.dri_rect.specs.Walk.{IsRow, Ahead, Reaches, Stretch, Later, IsLesser, IsCombined, closed, opened, same_columns, both_empty};
+ghost use Rattle.dri_rect.specs.Walk.{IsRow, Ahead, Reaches, Next, Later, IsLesser, Added, row, answer, lesser_of, greater_of, start_of, end_of, put, gone_on, opened, open_to, placed, same_columns, both_empty, is_done, IsLevel};
 
 use crate::operation::Operation;
 use dri_base::{OutOfMemory, Rect};
@@ -14,11 +14,26 @@ pub const LEAST: i32 = -4096;
 /// A place behind every coordinate.
 pub const BEHIND: i32 = 4097;
 
+/// The columns from x1 up to, and without, x2.
+#[derive(Clone, Copy)]
+struct Columns {
+    x1: i32,
+    x2: i32,
+}
+
 /// The lesser of two places.
 pub fn lesser(first: i32, second: i32) -> i32
-    ensures { IsLesser first second result }
+    ensures lesser { IsLesser first second result }
+    ensures value { result ≡ lesser_of first second }
 {
     if first < second { first } else { second }
+}
+
+/// The greater of two places.
+fn greater(first: i32, second: i32) -> i32
+    ensures { result ≡ greater_of first second }
+{
+    if first < second { second } else { first }
 }
 
 /// Whether nothing is left.
@@ -28,23 +43,39 @@ pub fn is_over(left: &[Rect], right: &[Rect]) -> bool
     left.is_empty() && right.is_empty()
 }
 
-/// Whether the column is in the row, and where this ends.
-#[tactic(auto, using(crate::proofs::RowWalks::stretch_none, crate::proofs::RowWalks::stretch_in, crate::proofs::RowWalks::stretch_out))]
-fn stretch(rects: &[Rect], x: i32) -> (bool, i32)
+/// Whether nothing more can come of what is left.
+pub fn is_done(operation: Operation, left: &[Rect], right: &[Rect]) -> bool
+    ensures { result ≡ is_done operation left.now right.now }
+{
+    match operation {
+        Operation::Unite => is_over(left, right),
+        Operation::Subtract => left.is_empty(),
+        Operation::Intersect => {
+            if left.is_empty() {
+                return true;
+            }
+            right.is_empty()
+        }
+    }
+}
+
+/// The first columns of a row, or none behind every place.
+#[tactic(auto, using(crate::proofs::RowWalks::next_none))]
+fn head(rects: &[Rect], x: i32) -> Columns
     requires is_row { IsRow rects.now }
     requires ahead { Ahead rects.now x }
     requires high { x ≤ℤ most }
-    ensures { Stretch rects.now x result.0 result.1 }
+    ensures { Next rects.now x result.x1 result.x2 }
 {
     match rects.split_first() {
-        None => (false, BEHIND),
-        Some((first, _)) => {
-            if first.x1 <= x {
-                (true, first.x2)
-            } else {
-                (false, first.x1)
-            }
-        }
+        None => Columns {
+            x1: BEHIND,
+            x2: BEHIND,
+        },
+        Some((first, _)) => Columns {
+            x1: first.x1,
+            x2: first.x2,
+        },
     }
 }
 
@@ -61,99 +92,169 @@ fn later(rects: &[Rect], x: i32) -> &[Rect]
     }
 }
 
-/// Goes on at a column: closes the begun rectangle or opens one.
-fn turn(
-    into: &mut Vec<Rect>,
-    begun: Option<i32>,
-    is_in: bool,
-    x: i32,
-) -> Result<Option<i32>, OutOfMemory>
-    ensures begun { IfOk result (λ next. next ≡ opened begun is_in x) }
-    ensures items { OnOk result (into.new.items ≡ closed into.old.items begun is_in x) }
+/// Where the answer begins, from a column on, by where the two rows begin.
+fn start_of(operation: Operation, x: i32, first: i32, second: i32) -> i32
+    ensures { result ≡ start_of operation x first second }
 {
-    match begun {
-        Some(start) => {
-            if is_in {
-                Ok(Some(start))
-            } else {
-                into.push(Rect {
-                    x1: start,
-                    y1: 0,
-                    x2: x,
-                    y2: 1,
-                })?;
-                Ok(None)
-            }
-        }
-        None => { if is_in { Ok(Some(x)) } else { Ok(None) } }
+    match operation {
+        Operation::Unite => greater(x, lesser(first, second)),
+        Operation::Subtract => greater(x, first),
+        Operation::Intersect => greater(x, greater(first, second)),
     }
 }
 
-/// The operation on two rows, by one walk over both.
+/// Where it ends, at a column or before.
+fn end_of(operation: Operation, second: i32, end: i32) -> i32
+    ensures { result ≡ end_of operation second end }
+{
+    match operation {
+        Operation::Subtract => lesser(second, end),
+        Operation::Unite => end,
+        Operation::Intersect => end,
+    }
+}
+
+/// Puts columns last, between two lines, if there are any.
+fn put(into: &mut Vec<Rect>, x1: i32, x2: i32, top: i32, bottom: i32) -> Result<(), OutOfMemory>
+    ensures { OnOk result (into.new.items ≡ put into.old.items top bottom x1 x2) }
+{
+    if x1 < x2 {
+        into.push(Rect {
+            x1,
+            y1: top,
+            x2,
+            y2: bottom,
+        })?;
+    }
+    Ok(())
+}
+
+/// Goes on with columns, if there are any: where they touch the open ones they make these longer, else the open ones end.
+/// Answers the open columns.
+fn go_on(
+    into: &mut Vec<Rect>,
+    begun: Columns,
+    x1: i32,
+    x2: i32,
+    top: i32,
+    bottom: i32,
+) -> Result<Columns, OutOfMemory>
+    ensures items { OnOk result (into.new.items ≡ gone_on into.old.items top bottom begun.x1 begun.x2 x1 x2) }
+    ensures x1 { IfOk result (λ next. next.x1 ≡ opened begun.x1 begun.x2 x1 x2) }
+    ensures x2 { IfOk result (λ next. next.x2 ≡ open_to begun.x2 x1 x2) }
+{
+    if x2 <= x1 {
+        return Ok(begun);
+    }
+    if x1 == begun.x2 {
+        return Ok(Columns { x1: begun.x1, x2 });
+    }
+    put(into, begun.x1, begun.x2, top, bottom)?;
+    Ok(Columns { x1, x2 })
+}
+
+/// The operation on two rows, by one walk over both. Each call names its operation, so that the walk is compiled for it.
+#[inline(always)]
 fn walk_rows(
     operation: Operation,
     first: &[Rect],
     second: &[Rect],
+    top: i32,
+    bottom: i32,
     into: &mut Vec<Rect>,
 ) -> Result<(), OutOfMemory>
     requires first { IsRow first.now }
     requires second { IsRow second.now }
-    ensures { OnOk result (IsCombined operation first.now second.now into.new.items) }
+    ensures { OnOk result (Added into.old.items into.new.items top bottom (λ z. answer operation (row first.now z) (row second.now z))) }
 {
-    into.clear();
     let mut left = first;
     let mut right = second;
     let mut x = LEAST;
-    let mut begun = None;
-    while !is_over(left, right) {
-        let (in_left, left_end) = stretch(left, x);
-        let (in_right, right_end) = stretch(right, x);
-        begun = turn(into, begun, operation.of(in_left, in_right), x)?;
-        x = lesser(left_end, right_end);
+    let mut begun = Columns { x1: x, x2: x };
+    while !is_done(operation, left, right) {
+        let one = head(left, x);
+        let other = head(right, x);
+        let end = lesser(one.x2, other.x2);
+        let x1 = start_of(operation, x, one.x1, other.x1);
+        let x2 = end_of(operation, other.x1, end);
+        begun = go_on(into, begun, x1, x2, top, bottom)?;
+        x = end;
         left = later(left, x);
         right = later(right, x);
     }
-    turn(into, begun, false, x)?;
+    put(into, begun.x1, begun.x2, top, bottom)?;
     Ok(())
 }
 
-/// A row by itself.
-fn copy_row(row: &[Rect], into: &mut Vec<Rect>) -> Result<(), OutOfMemory>
-    ensures { OnOk result (into.new.items ≡ row.now) }
+/// Puts a row last, between two lines.
+fn place(row: &[Rect], top: i32, bottom: i32, into: &mut Vec<Rect>) -> Result<(), OutOfMemory>
+    ensures { OnOk result (into.new.items ≡ into.old.items ++ placed top bottom row.now) }
 {
-    into.clear();
-    into.extend_from_slice(row)?;
+    for rect in row {
+        into.push(Rect {
+            x1: rect.x1,
+            y1: top,
+            x2: rect.x2,
+            y2: bottom,
+        })?;
+    }
     Ok(())
 }
 
-/// The operation on two rows. Where one of them is empty there is no walk.
-#[tactic(auto, using(crate::proofs::RowWalks::unite_first, crate::proofs::RowWalks::unite_second, crate::proofs::RowWalks::subtract_first))]
+/// The same, at once where the row stands between these lines.
+fn copy_row(row: &[Rect], top: i32, bottom: i32, into: &mut Vec<Rect>) -> Result<(), OutOfMemory>
+    requires { IsLevel row.now }
+    ensures { OnOk result (into.new.items ≡ into.old.items ++ placed top bottom row.now) }
+{
+    if let Some((head, _)) = row.split_first() {
+        if head.y1 == top && head.y2 == bottom {
+            into.extend_from_slice(row)?;
+            return Ok(());
+        }
+    }
+    place(row, top, bottom, into)?;
+    Ok(())
+}
+
+/// The operation on two rows, put last between two lines. Where one of them is empty there is no walk. It stands alone in
+/// the program, so that its loops have the registers.
+#[inline(never)]
+#[tactic(auto, using(crate::proofs::RowWalks::unite_first, crate::proofs::RowWalks::unite_second, crate::proofs::RowWalks::subtract_first, crate::proofs::RowWalks::nothing_added))]
 pub fn combine_rows(
     operation: Operation,
     first: &[Rect],
     second: &[Rect],
+    top: i32,
+    bottom: i32,
     into: &mut Vec<Rect>,
 ) -> Result<(), OutOfMemory>
     requires first { IsRow first.now }
     requires second { IsRow second.now }
-    ensures { OnOk result (IsCombined operation first.now second.now into.new.items) }
+    requires level { IsLevel first.now }
+    requires level_second { IsLevel second.now }
+    ensures { OnOk result (Added into.old.items into.new.items top bottom (λ z. answer operation (row first.now z) (row second.now z))) }
 {
+    if is_done(operation, first, second) {
+        return Ok(());
+    }
     match operation {
-        Operation::Intersect => walk_rows(Operation::Intersect, first, second, into),
+        Operation::Intersect => {
+            walk_rows(Operation::Intersect, first, second, top, bottom, into)
+        }
         Operation::Unite => {
             if second.is_empty() {
-                return copy_row(first, into);
+                return copy_row(first, top, bottom, into);
             }
             if first.is_empty() {
-                return copy_row(second, into);
+                return copy_row(second, top, bottom, into);
             }
-            walk_rows(Operation::Unite, first, second, into)
+            walk_rows(Operation::Unite, first, second, top, bottom, into)
         }
         Operation::Subtract => {
             if second.is_empty() {
-                return copy_row(first, into);
+                return copy_row(first, top, bottom, into);
             }
-            walk_rows(Operation::Subtract, first, second, into)
+            walk_rows(Operation::Subtract, first, second, top, bottom, into)
         }
     }
 }

@@ -5,7 +5,7 @@ use Rattle.dri_rect.specs.Walk.{RowWalk}
 use Rattle.dri_rect.proofs.rows.walk_rows.Given as goal
 
 abbrev pub invariant-loop-left : goal.invariant-loop-left
-invariant-loop-left l = RowWalk l.operation l.first l.second l.left l.right l.into.items l.begun l.x
+invariant-loop-left l = RowWalk l.operation l.first l.second l.left l.right l.fn.into.items l.into.items l.top l.bottom l.begun.x1 l.begun.x2 l.x
 
 abbrev pub decreases-loop-left : goal.decreases-loop-left
 decreases-loop-left l = unsigned_abs (most -ℤ l.x)

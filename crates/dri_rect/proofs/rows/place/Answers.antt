@@ -5,7 +5,7 @@ use mir.Val.{SFits}
 use Rattle.dri_base.specs.declared.shape.Rect.{Rect}
 use Rattle.dri_rect.specs.Walk.{placed}
 use Rattle.dri_rect.proofs.BandWalks.{placed_at}
-use Rattle.dri_rect.proofs.bands.place.Goals as goal
+use Rattle.dri_rect.proofs.rows.place.Goals as goal
 
 abbrev none : Rect
 none = record { x1 = pos 0; y1 = pos 0; x2 = pos 0; y2 = pos 0 }
