@@ -4,7 +4,7 @@ ghost use Rattle.std.specs.Prelude.{◌≡◌};
 ghost use Rattle.dri_base.specs.Ranges.{IsVertexPlace};
 
 use dri_base::{Point, Rect, Rgba, Triangle, Vertex};
-use dri_raster::{Channel, Setup, common_edge};
+use dri_raster::{Channel, Setup, Span, common_edge, covered_is_amid};
 use std::test::Fail;
 
 /// The first four rows' first four pixels.
@@ -34,6 +34,17 @@ fn corner(x: i32, y: i32) -> Vertex
         s: 16,
         t: 32,
     }
+}
+
+fn deep(x: i32, y: i32, z: u16) -> Vertex
+    requires x { IsVertexPlace x }
+    requires y { IsVertexPlace y }
+    ensures x { result.x ≡ x }
+    ensures y { result.y ≡ y }
+{
+    let mut vertex = corner(x, y);
+    vertex.z = z;
+    vertex
 }
 
 /// Two halves of a square of four by four pixels share its diagonal.
@@ -66,6 +77,9 @@ fn halves(rt: HostRuntime) -> Result<(), Fail> {
         assert_eq!(rt; *point, Point { x, y });
     }
     assert_eq!(rt; second.for_rect(&SQUARE).count(), 10);
+    assert_eq!(rt; first.span(0, &SQUARE), Some(Span { x1: 0, x2: 3 }));
+    assert_eq!(rt; first.span(2, &SQUARE), Some(Span { x1: 0, x2: 1 }));
+    assert!(rt; first.span(3, &SQUARE).is_none());
     Ok(())
 }
 
@@ -90,6 +104,30 @@ fn largest(rt: HostRuntime) {
     ] {
         assert_eq!(rt; setup.value_at(channel, -1, -1), value);
     }
+}
+
+/// A quantity along a row, by steps.
+#[test]
+fn running(rt: HostRuntime) {
+    covered_is_amid();
+    let triangle = Triangle {
+        a: deep(0, 0, 0),
+        b: deep(64, 0, 64),
+        c: deep(0, 64, 0),
+    };
+    let setup = Setup::new(&triangle).expect(&rt, "the triangle has an area");
+    assert!(rt; setup.covers(0, 0));
+    assert!(rt; setup.covers(1, 0));
+    assert!(rt; setup.covers(2, 0));
+    let mut runner = setup.runner(Channel::Z, 0, 0);
+    assert_eq!(rt; runner.value(), 8);
+    runner.step();
+    assert_eq!(rt; runner.value(), 24);
+    runner.step();
+    assert_eq!(rt; runner.value(), 40);
+    assert!(rt; setup.covers(1, 1));
+    runner.stand_at(1, 1);
+    assert_eq!(rt; runner.value(), 24);
 }
 
 /// Three equal points have no area.

@@ -31,8 +31,6 @@ fn in_scissor(scissor: Option<ClipRect>, x: i32, y: i32) -> bool
 
 /// A channel of the triangle's colour at a pixel that it covers.
 fn colour_channel(setup: &Setup, channel: Channel, x: i32, y: i32) -> u8
-    requires x { IsWindowPlace x }
-    requires y { IsWindowPlace y }
     requires covered { IsTrue (covers setup.now x y) }
     requires colour { most channel ≡ 255 }
     ensures { result ≡ quantity setup.now (value_of channel) x y }
@@ -42,8 +40,6 @@ fn colour_channel(setup: &Setup, channel: Channel, x: i32, y: i32) -> u8
 
 /// The triangle's own colour at a pixel that it covers.
 fn shaded(setup: &Setup, shade: Shade, third: Rgba, x: i32, y: i32) -> Rgba
-    requires x { IsWindowPlace x }
-    requires y { IsWindowPlace y }
     requires covered { IsTrue (covers setup.now x y) }
     requires third { third ≡ setup.now.c.colour }
     ensures { result ≡ shaded shade setup.now x y }
@@ -67,8 +63,6 @@ fn texel_used(
     x: i32,
     y: i32,
 ) -> Option<Rgb>
-    requires x { IsWindowPlace x }
-    requires y { IsWindowPlace y }
     requires covered { IsTrue (covers setup.now x y) }
     requires whole { IfSome (option_copied texture) HasTexels }
     ensures { result ≡ texel_used state.now.tex_mode (given_image (option_copied texture.entry)) state.now.wrap (quantity setup.now (λ v. v.s) x y) (quantity setup.now (λ v. v.t) x y) }

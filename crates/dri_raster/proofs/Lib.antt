@@ -7,3 +7,6 @@ pub mod Rows
 pub mod Filters
 pub mod CommonEdges
 mod SumBounds
+pub mod Spans
+pub mod Reach
+pub mod Running

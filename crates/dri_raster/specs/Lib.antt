@@ -5,3 +5,7 @@ pub mod Walks
 pub mod WalkStates
 pub mod Neighbours
 pub mod Sums
+pub mod Spans
+pub mod Reach
+pub mod Standing
+pub mod Runners

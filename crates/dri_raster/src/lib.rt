@@ -1,17 +1,23 @@
 //! Which pixels a triangle covers, and what its quantities are there.
 #![tactic(auto)]
 
+mod amid;
 mod channel;
 mod edge;
 mod edges;
+mod frame;
 mod neighbours;
-mod points;
+mod runner;
 mod setup;
+mod span;
 mod sums;
 mod walk;
 
+pub use amid::covered_is_amid;
 pub use channel::Channel;
 pub use neighbours::common_edge;
+pub use runner::Runner;
 pub use setup::Setup;
+pub use span::Span;
 pub use sums::sums_stay_small;
 pub use walk::Walk;

@@ -1,16 +1,22 @@
 //! A triangle made ready for its pixels. Where its area is negative the second and the third corner change places, so
 //! that the inner side of every edge is the positive one; the three edges and twice the area are worked out once.
 
-ghost use Rattle.std.specs.Prelude.{◌≡◌, ◌≤◌, ◌↔◌, IfSome, IsNone, IsTrue, pos};
-ghost use Rattle.dri_base.specs.Coverage.{area, covers, quantity, turned};
-ghost use Rattle.dri_raster.specs.Channels.{most, value_of};
+ghost use Rattle.std.specs.Prelude.{◌≡◌, ◌≤◌, ◌↔◌, IfSome, IsNone, IsTrue, MatchOption, ℤ, true, pos, ◌&&◌, ◌<◌, int_le, int_lt, unsigned_abs};
+ghost use Rattle.dri_base.specs.Coverage.{area, centre, covers, quantity, turned, weighed};
+ghost use Rattle.dri_raster.specs.Channels.{IsBounded, most, value_of};
+ghost use Rattle.dri_raster.specs.Runners.{slope_of};
+ghost use Rattle.dri_raster.specs.Standing.{Standing};
 ghost use Rattle.dri_raster.specs.Edges.{IsPixel, IsWithin};
+ghost use Rattle.dri_raster.specs.Spans.{CoversNone, IsSpan, in_bounds};
 ghost use Rattle.dri_raster.specs.Walks.{IsNear, covered_points};
 ghost use Rattle.dri_base.specs.Ranges.{TriangleInRange};
 
 use crate::channel::Channel;
 use crate::edge::{cross, difference};
 use crate::edges::Edges;
+use crate::frame::{cut_rows, frame};
+use crate::runner::Runner;
+use crate::span::Span;
 use crate::walk::Walk;
 use dri_base::{Rect, Triangle};
 use std::marker::Model;
@@ -70,14 +76,76 @@ impl Setup {
     /// by the three edges, divided by twice the area, rounded down: at most 255 for a channel of the colour, at most
     /// 65,535 for any other.
     pub fn value_at(&self, channel: Channel, x: i32, y: i32) -> u32
-        requires x { IsPixel x }
-        requires y { IsPixel y }
-        requires covered { IsTrue (covers self.now x y) }
+        requires { IsTrue (covers self.now x y) }
         ensures value { result ≡ quantity self.now (value_of channel) x y }
         ensures bounded { result ≤ most channel }
     {
+        (self.sum_at(channel, x, y) / self.area) as u32
+    }
+
+    /// The corners' quantities weighed by the three edges, at the centre of pixel (x, y), which the triangle covers.
+    pub(crate) fn sum_at(&self, channel: Channel, x: i32, y: i32) -> u64
+        requires { IsTrue (covers self.now x y) }
+        ensures value { pos result ≡ weighed (turned self.now) (value_of channel) (centre x y) }
+        ensures bounded { IsBounded (turned self.now) (value_of channel) (most channel) }
+    {
         let sum = self.edges.weighed(&self.turned, channel, x, y);
-        (sum.unsigned_abs() / self.area) as u32
+        sum.unsigned_abs()
+    }
+
+    /// What that sum grows by from a column to the next.
+    pub(crate) fn slope(&self, channel: Channel) -> i64
+        ensures value { result ≡ slope_of self.now (value_of channel) }
+        ensures small { IsWithin 108086391056891904 result }
+    {
+        self.edges.slope(&self.turned, channel)
+    }
+
+    /// Twice the area, which isn't zero.
+    pub(crate) fn twice_area(&self) -> u64
+        ensures value { result ≡ unsigned_abs (area self.now) }
+        ensures some { 0 < result }
+        ensures small { result ≤ 8589672450 }
+        ensures in_range { TriangleInRange self.now }
+    {
+        self.area
+    }
+
+    /// A runner of a channel that stands at pixel (x, y), whose centre the triangle covers.
+    pub fn runner(&self, channel: Channel, x: i32, y: i32) -> Runner<'_>
+        requires { IsTrue (covers self.now x y) }
+        ensures { result ≡ record { triangle = self.now; channel = channel; x = x; y = y } }
+    {
+        Runner::new(self, channel, x, y)
+    }
+
+    /// A rectangle that holds each pixel whose centre the triangle covers: the rows and columns between its corners.
+    pub fn frame(&self) -> Rect
+        ensures holds { (x y : ℤ) → covers self.now x y ≡ true → in_bounds result x y ≡ true }
+        ensures near { IsNear result }
+    {
+        frame(&self.triangle)
+    }
+
+    /// The pixels of row y that the triangle covers in the rectangle, and `None` exactly where there are none. The row
+    /// and the rectangle lie within -4,096 to 4,096.
+    pub fn span(&self, y: i32, rect: &Rect) -> Option<Span>
+        requires y { IsPixel y }
+        requires rect { IsNear rect.now }
+        ensures { MatchOption result (CoversNone self.now rect.now y) (IsSpan self.now rect.now y) }
+    {
+        if !has_row(rect, y) {
+            return None;
+        }
+        let whole = Span {
+            x1: rect.x1,
+            x2: rect.x2,
+        };
+        let span = self.edges.narrowed(y, whole);
+        if span.x2 <= span.x1 {
+            return None;
+        }
+        Some(span)
     }
 
     /// The pixels of the rectangle whose centres the triangle covers, row by row, each once. The rectangle lies within
@@ -86,8 +154,16 @@ impl Setup {
         requires { IsNear rect.now }
         ensures { result ≡ covered_points self.now rect.now }
     {
-        Walk::new(self.edges, rect)
+        let frame = frame(&self.triangle);
+        Walk::new(self.edges, &cut_rows(rect, frame.y1, frame.y2))
     }
+}
+
+/// Whether row y is one of the rectangle's.
+fn has_row(rect: &Rect, y: i32) -> bool
+    ensures { result ≡ (int_le rect.now.y1 y && int_lt y rect.now.y2) }
+{
+    rect.y1 <= y && y < rect.y2
 }
 
 /// Twice the area, with its sign.
