@@ -13,10 +13,10 @@ use Rattle.dri_base.specs.declared.shape.Triangle.{Triangle}
 use Rattle.dri_base.specs.declared.state.Registers.{Registers}
 use Rattle.dri_base.specs.Coverage.{covers, quantity}
 use Rattle.dri_base.specs.Fragments.{fragment, in_scissor, passes, shaded, with_texel, written}
-use Rattle.dri_base.specs.Planes.{plane}
+use Rattle.dri_base.specs.Planes.{plane, in_rect}
 use Rattle.dri_base.specs.Texels.{Image}
 use Rattle.dri_model.specs.Words.{card_image, rules_in}
-use Rattle.dri_plane.specs.Grids.{Grid, Becomes, in_rect}
+use Rattle.dri_plane.specs.Grids.{Grid, Becomes}
 use Rattle.dri_card.specs.Contents.{Contents, Holds, memory_of}
 use Rattle.dri_card.specs.Drawing.{OnlyDrawn, after_triangle, after_triangles, drawn}
 use Rattle.dri_card.specs.Pairs.{IsNarrowed, drawn_at, unscissored}

@@ -3,11 +3,12 @@ use Rattle.std.proofs.Common.{◌≡◌, ℕ, ◌<◌, ◌≤◌, nat_le, nat_lt
 use Rattle.std.proofs.lemmas.Int.{ints, by_lt_z}
 use Rattle.std.proofs.lemmas.Bool.Decides.{nat_tests}
 use Rattle.std.proofs.lemmas.Bool.{leb-true}
+use Rattle.dri_base.proofs.Shifts.{le_moved, lt_moved}
 use Rattle.dri_base.specs.declared.scene.Window.{Window}
 use Rattle.dri_base.specs.declared.shape.ClipRect.{ClipRect}
 use Rattle.dri_base.specs.declared.shape.Point.{Point}
 use Rattle.dri_model.specs.Stacks.{has_pixel}
-use Rattle.dri_plane.specs.Grids.{in_rect}
+use Rattle.dri_base.specs.Planes.{in_rect}
 
 -- the places of a range from p on are those that aren't before n
 abbrev pub Cuts : ℕ → ℕ → ℕ → ℤ → Type 0
@@ -45,35 +46,6 @@ pub window_cut : (w : Window) (r : ClipRect) (width height a b : ℕ) → Cuts 0
     → Cuts 0 width r.x2 (w.x +ℤ pos w.width) → Cuts 0 height r.y2 (w.y +ℤ pos w.height) → a < width → b < height → in_rect r a b ≡ has_pixel w a b
 window_cut w r width height a b c1 c2 c3 c4 la lb =
     rw (between 0 width r.x1 r.x2 a _ _ c1 c3 (omega arith) la, between 0 height r.y1 r.y2 b _ _ c2 c4 (omega arith) lb) refl
-
--- a number that is moved
-le_moved : (a b d : ℤ) → int_le (a +ℤ d) b ≡ int_le a (b -ℤ d)
-le_moved a b d = by_lt_z b (a +ℤ d) (λ h. no h ∙ sym (no' h)) (λ h. yes h ∙ sym (yes' h)) where
-  no : b <ℤ (a +ℤ d) → int_le (a +ℤ d) b ≡ false
-  no h = grind (arith, ints)
-
-  no' : b <ℤ (a +ℤ d) → int_le a (b -ℤ d) ≡ false
-  no' h = grind (arith, ints)
-
-  yes : (a +ℤ d) ≤ℤ b → int_le (a +ℤ d) b ≡ true
-  yes h = grind (arith, ints)
-
-  yes' : (a +ℤ d) ≤ℤ b → int_le a (b -ℤ d) ≡ true
-  yes' h = grind (arith, ints)
-
-lt_moved : (a b d : ℤ) → int_lt b (a +ℤ d) ≡ int_lt (b -ℤ d) a
-lt_moved a b d = by_lt_z b (a +ℤ d) (λ h. yes h ∙ sym (yes' h)) (λ h. no h ∙ sym (no' h)) where
-  yes : b <ℤ (a +ℤ d) → int_lt b (a +ℤ d) ≡ true
-  yes h = grind (arith, ints)
-
-  yes' : b <ℤ (a +ℤ d) → int_lt (b -ℤ d) a ≡ true
-  yes' h = grind (arith, ints)
-
-  no : (a +ℤ d) ≤ℤ b → int_lt b (a +ℤ d) ≡ false
-  no h = grind (arith, ints)
-
-  no' : (a +ℤ d) ≤ℤ b → int_lt (b -ℤ d) a ≡ false
-  no' h = grind (arith, ints)
 
 -- the columns, or the rows, of a clip that lie in a scissor
 narrowed_side : (low high p q s t k : ℕ) (o : ℤ) → low ≤ p → q ≤ high → Cuts low high p (pos s +ℤ o) → Cuts p high q (pos t +ℤ o)

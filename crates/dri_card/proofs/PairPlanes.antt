@@ -4,7 +4,7 @@ use Rattle.dri_base.specs.declared.colour.Rgb.{Rgb}
 use Rattle.dri_base.specs.declared.colour.Pixel.{Pixel}
 use Rattle.dri_base.specs.Planes.{plane, at}
 use Rattle.dri_plane.specs.Grids.{Grid, Becomes}
-use Rattle.dri_plane.proofs.Planes.{plane_same, plane_at}
+use Rattle.dri_base.proofs.PlaneLists.{plane_same, plane_at}
 use Rattle.dri_card.specs.Contents.{HoldPairs}
 
 -- a part of a pair that is written where so

@@ -4,8 +4,9 @@ use Rattle.dri_base.specs.declared.colour.Rgb.{Rgb}
 use Rattle.dri_base.specs.declared.scene.Window.{Window}
 use Rattle.dri_base.specs.declared.shape.ClipRect.{ClipRect}
 use Rattle.dri_model.specs.Stacks.{ground_colour, has_pixel, top}
-use Rattle.dri_plane.specs.Grids.{Grid, Becomes, in_rect}
-use Rattle.dri_plane.proofs.Planes.{plane_same}
+use Rattle.dri_base.specs.Planes.{in_rect}
+use Rattle.dri_plane.specs.Grids.{Grid, Becomes}
+use Rattle.dri_base.proofs.PlaneLists.{plane_same}
 use Rattle.dri_card.specs.Openings.{IsCut, ShowsStack}
 
 -- the topmost window of one on others

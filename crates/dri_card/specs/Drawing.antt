@@ -9,7 +9,7 @@ use Rattle.dri_base.specs.Fragments.{fragment}
 use Rattle.dri_model.specs.CommandWords.{Buffer as IsBuffer}
 use Rattle.dri_model.specs.WordFaults.{IsBadWord}
 use Rattle.dri_model.specs.Words.{rules_in, card_image}
-use Rattle.dri_plane.specs.Grids.{in_rect}
+use Rattle.dri_base.specs.Planes.{in_rect}
 use Rattle.dri_card.specs.declared.faults.DispatchFault.{DispatchFault}
 use Rattle.dri_card.specs.declared.faults.DispatchFault.TheVariants.{BadWord}
 use Rattle.dri_card.specs.Contents.{Contents, memory_of}

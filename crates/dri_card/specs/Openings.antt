@@ -3,9 +3,9 @@ use Rattle.std.specs.Prelude.{ℕ, ◌≡◌, ◌<◌, List}
 use Rattle.dri_base.specs.declared.colour.Rgb.{Rgb}
 use Rattle.dri_base.specs.declared.scene.Window.{Window}
 use Rattle.dri_base.specs.declared.shape.ClipRect.{ClipRect}
-use Rattle.dri_base.specs.Planes.{plane}
+use Rattle.dri_base.specs.Planes.{plane, in_rect}
 use Rattle.dri_model.specs.Stacks.{ground_colour, has_pixel, top}
-use Rattle.dri_plane.specs.Grids.{Grid, in_rect}
+use Rattle.dri_plane.specs.Grids.{Grid}
 
 -- the rectangle's places are those of the screen that the window has
 abbrev pub IsCut : Window → ℕ → ℕ → ClipRect → Type 0

@@ -12,7 +12,7 @@ use Rattle.dri_base.specs.declared.shape.Triangle.{Triangle}
 use Rattle.dri_base.specs.Coverage.{covers, quantity}
 use Rattle.dri_base.specs.Fragments.{Rules, in_scissor, over, shaded, textured}
 use Rattle.dri_model.specs.Words.{rules_in}
-use Rattle.dri_plane.specs.Grids.{in_rect}
+use Rattle.dri_base.specs.Planes.{in_rect}
 use Rattle.dri_card.specs.declared.target.Target.{Target}
 use Rattle.dri_card.specs.declared.depth_test.DepthTest.{DepthTest}
 use Rattle.dri_card.specs.declared.drawing.Drawing.{Drawing}

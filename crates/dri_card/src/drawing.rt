@@ -8,7 +8,8 @@ ghost use Rattle.dri_base.specs.Coverage.{area};
 ghost use Rattle.dri_base.specs.Fragments.{fragment};
 ghost use Rattle.dri_base.specs.Ranges.{IsPlace, TriangleInRange};
 ghost use Rattle.dri_model.specs.Words.{IsBoundInRange, card_image};
-ghost use Rattle.dri_plane.specs.Grids.{IsInside, in_rect};
+ghost use Rattle.dri_base.specs.Planes.{in_rect};
+ghost use Rattle.dri_plane.specs.Grids.{IsInside};
 ghost use Rattle.dri_card.specs.Loading.{IsImageWithin};
 ghost use Rattle.dri_card.specs.Pairs.{PairsBecome, byte_in, drawn_at, pair_by, pair_left, turned_at, unscissored};
 

@@ -2,21 +2,21 @@ use dri_base::{BadWord, ClipRect};
 
 /// What isn't on the card: a rectangle with a side before the one across from it or beyond the screen, or bytes whose end
 /// is beyond the texture memory's, with the first of them and how many they are.
-#[derive(Clone, Copy, Debug, PartialEq, Eq)]
+#[derive(Clone, Copy, PartialEq, Eq)]
 pub enum OutsideCard {
     Clip { rect: ClipRect },
     Base { base: u32, len: u32 },
 }
 
 /// Command words that the card doesn't take.
-#[derive(Clone, Copy, Debug, PartialEq, Eq)]
+#[derive(Clone, Copy, PartialEq, Eq)]
 pub enum DispatchFault {
     BadWord(BadWord),
 }
 
 /// Register words that the card doesn't take: they spell no registers, or the image that they bind isn't in the texture
 /// memory.
-#[derive(Clone, Copy, Debug, PartialEq, Eq)]
+#[derive(Clone, Copy, PartialEq, Eq)]
 pub enum LoadFault {
     BadWord(BadWord),
     Outside(OutsideCard),

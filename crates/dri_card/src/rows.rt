@@ -3,7 +3,8 @@
 ghost use Rattle.std.specs.Prelude.{◌≡◌, ◌<◌, ℕ, IsTrue, if◌then◌else◌};
 ghost use Rattle.dri_base.specs.Coverage.{covers};
 ghost use Rattle.dri_base.specs.Ranges.{IsPlace};
-ghost use Rattle.dri_plane.specs.Grids.{IsInside, in_rect, is_place};
+ghost use Rattle.dri_base.specs.Planes.{in_rect};
+ghost use Rattle.dri_plane.specs.Grids.{IsInside, is_place};
 ghost use Rattle.dri_raster.specs.Edges.{IsPixel};
 ghost use Rattle.dri_card.specs.Pairs.{PairsBecome, drawn_at, in_row, pair_by};
 

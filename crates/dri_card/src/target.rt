@@ -3,7 +3,8 @@
 ghost use Rattle.std.specs.Prelude.{◌≡◌, ◌<◌, ◌+◌, ◌*◌, ℕ, if◌then◌else◌, IfOk};
 ghost use Rattle.dri_base.specs.declared.colour.Pixel.{Pixel};
 ghost use Rattle.dri_base.specs.Ranges.{IsSide};
-ghost use Rattle.dri_plane.specs.Grids.{area, in_rect, is_place, IsInside};
+ghost use Rattle.dri_base.specs.Planes.{in_rect};
+ghost use Rattle.dri_plane.specs.Grids.{area, is_place, IsInside};
 ghost use Rattle.dri_card.specs.Contents.{HoldPairs, blank};
 ghost use Rattle.dri_card.specs.Drawing.{cleared};
 ghost use Rattle.dri_card.specs.Pairs.{PairsBecome};

@@ -16,7 +16,8 @@ use Rattle.dri_clips.specs.declared.touched.Paint.{Paint}
 use Rattle.dri_clips.specs.Boards.{shows}
 use Rattle.dri_clips.specs.Gains.{AreOnScreen, ArePartlyPaints, IsGain, paint_of}
 use Rattle.dri_clips.specs.Layouts.{AreLayouts, IsAbsent, IsPlaced, screen_rect}
-use Rattle.dri_clips.specs.Paints.{AreApart, ArePaints, IsOnScreen, has_pixel, paint_at}
+use Rattle.dri_base.specs.Planes.{in_rect}
+use Rattle.dri_clips.specs.Paints.{AreApart, ArePaints, IsOnScreen, paint_at}
 use Rattle.dri_clips.proofs.Placing.{placed_here}
 use Rattle.dri_clips.proofs.Walking.{cuts_left, layout_clips, never_top, on_screen, shown, top_at, top_pixel}
 use Rattle.dri_clips.proofs.Painting.{all_pairs_append, nothing_yet, or_else, paint_append, paint_region_at, paint_region_each, paint_region_apart, painted_at, partly, place, rects_on, region_painted, step, top_at_place, top_here, top_more, wanted}
@@ -146,9 +147,9 @@ window_paints root old new k j w rs ps qs next l here gain apart proper before e
         ∙ ap (λ (u : Option Window). partly root (top old.stack x y) (top new.stack x y) u) (sym (top_more new.stack k w here x y))
 
     across : (i m : ℕ) (d : Paint) → i < length ps → m < length (map (paint_of w.background) rs) → AreApart (get_or ps i d) (get_or (map (paint_of w.background) rs) m d)
-    across i m d a b x y = by (has_pixel (get_or ps i d).rect x y) (has_pixel (get_or (map (paint_of w.background) rs) m d).rect x y) refl refl
+    across i m d a b x y = by (in_rect (get_or ps i d).rect x y) (in_rect (get_or (map (paint_of w.background) rs) m d).rect x y) refl refl
       where
-        by : (s t : Bool) → has_pixel (get_or ps i d).rect x y ≡ s → has_pixel (get_or (map (paint_of w.background) rs) m d).rect x y ≡ t → (s && t) ≡ false
+        by : (s t : Bool) → in_rect (get_or ps i d).rect x y ≡ s → in_rect (get_or (map (paint_of w.background) rs) m d).rect x y ≡ t → (s && t) ≡ false
         by true true g h =
             let q = region_painted old.width old.height w.background rs proper on m d x y b h in
             let r = and_parts (is_window w.number (top new.stack x y)) (not (is_window w.number (top old.stack x y))) (sym (pixel x y q.0 q.1) ∙ q.2) in

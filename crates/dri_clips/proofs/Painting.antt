@@ -15,7 +15,8 @@ use Rattle.dri_model.specs.Stacks.{ground_colour, is_window, same_top, top, has_
 use Rattle.dri_clips.specs.declared.touched.Paint.{Paint}
 use Rattle.dri_clips.specs.Gains.{AreOnScreen, IsRectOnScreen, clip_rect, paint_of}
 use Rattle.dri_clips.specs.Layouts.{AreApart as WindowsApart, IsAbsent, screen_rect}
-use Rattle.dri_clips.specs.Paints.{AreApart, IsOnScreen, has_pixel, paint_at}
+use Rattle.dri_base.specs.Planes.{in_rect}
+use Rattle.dri_clips.specs.Paints.{AreApart, IsOnScreen, paint_at}
 use Rattle.dri_clips.proofs.Placing.{eq_sym, take_one}
 use Rattle.dri_clips.proofs.Walking.{never_top, top_pixel, on_screen}
 
@@ -43,7 +44,7 @@ both_swapped true false = refl
 both_swapped false true = refl
 both_swapped false false = refl
 
-clip_has : (width height : ℕ) (r : Rect) → IsRectOnScreen width height r → (x y : ℕ) → has_pixel (clip_rect r) x y ≡ rect_has r (pos x) (pos y)
+clip_has : (width height : ℕ) (r : Rect) → IsRectOnScreen width height r → (x y : ℕ) → in_rect (clip_rect r) x y ≡ rect_has r (pos x) (pos y)
 clip_has width height r o x y =
     let right : pos 0 ≤ℤ r.x2 = omega (arith, ints, o.left, o.start) in
     let low : pos 0 ≤ℤ r.y2 = omega (arith, ints, o.top, o.head) in
@@ -100,7 +101,7 @@ or_else (Some a) b = Some a
 
 pub paint_append : (ps qs : List Paint) (x y : ℕ) → paint_at (ps ++ qs) x y ≡ or_else (paint_at ps x y) (paint_at qs x y)
 paint_append [] qs x y = refl
-paint_append (p ∷ ps) qs x y = by (has_pixel p.rect x y) (paint_append ps qs x y)
+paint_append (p ∷ ps) qs x y = by (in_rect p.rect x y) (paint_append ps qs x y)
   where
     by : (b : Bool) → paint_at (ps ++ qs) x y ≡ or_else (paint_at ps x y) (paint_at qs x y) → (if b then Some p.colour else paint_at (ps ++ qs) x y) ≡ or_else (if b then Some p.colour else paint_at ps x y) (paint_at qs x y)
     by true e = refl
@@ -142,10 +143,10 @@ all_pairs_append {X} R xs ys a b f i j d up below = elim (cases_lt j (length xs)
       ]
 ]
 
-pub painted_at : (ps : List Paint) (i : ℕ) (d : Paint) (x y : ℕ) → i < length ps → has_pixel (get_or ps i d).rect x y ≡ true → is_some (paint_at ps x y) ≡ true
+pub painted_at : (ps : List Paint) (i : ℕ) (d : Paint) (x y : ℕ) → i < length ps → in_rect (get_or ps i d).rect x y ≡ true → is_some (paint_at ps x y) ≡ true
 painted_at [] i d x y b h = absurd (omega arith)
 painted_at (p ∷ ps) zero d x y b h = rw h refl
-painted_at (p ∷ ps) (suc i) d x y b h = by (has_pixel p.rect x y) (painted_at ps i d x y (omega arith) h)
+painted_at (p ∷ ps) (suc i) d x y b h = by (in_rect p.rect x y) (painted_at ps i d x y (omega arith) h)
   where
     by : (t : Bool) → is_some (paint_at ps x y) ≡ true → is_some (if t then Some p.colour else paint_at ps x y) ≡ true
     by true e = refl
@@ -253,12 +254,12 @@ paint_region_apart width height colour rs apart proper on i j d up below =
     (apart i j no_rect up (omega arith) (pos x) (pos y)))
 
 -- a painted pixel is on the screen and in the region
-pub region_painted : (width height : ℕ) (colour : Rgb) (rs : List Rect) → AllByRecursion IsProper rs → AreOnScreen width height rs → (m : ℕ) (d : Paint) (x y : ℕ) → m < length (map (paint_of colour) rs) → has_pixel (get_or (map (paint_of colour) rs) m d).rect x y ≡ true →
+pub region_painted : (width height : ℕ) (colour : Rgb) (rs : List Rect) → AllByRecursion IsProper rs → AreOnScreen width height rs → (m : ℕ) (d : Paint) (x y : ℕ) → m < length (map (paint_of colour) rs) → in_rect (get_or (map (paint_of colour) rs) m d).rect x y ≡ true →
     (x < width) × (y < height) × (inside rs (pos x) (pos y) ≡ true)
 region_painted width height colour rs proper on m d x y b h =
     let room = length-map rs (paint_of colour) in
     let low : m < length rs = omega arith in
-    let g : has_pixel (clip_rect (get_or rs m no_rect)) x y ≡ true = subst (λ (p : Paint). has_pixel p.rect x y ≡ true) (mapped_get colour rs m d low) h in
+    let g : in_rect (clip_rect (get_or rs m no_rect)) x y ≡ true = subst (λ (p : Paint). in_rect p.rect x y ≡ true) (mapped_get colour rs m d low) h in
     let f = sym (clip_has width height (get_or rs m no_rect) (rects_on width height rs proper on m no_rect low) x y) ∙ g in
     let i = member rs m (get_or rs m no_rect) (pos x) (pos y) (get_some rs m no_rect low) f in
     let p = and_parts (nat_lt x width) (nat_lt y height) (sym (on_screen width height x y) ∙ on (pos x) (pos y) i) in

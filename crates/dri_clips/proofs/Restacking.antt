@@ -204,17 +204,11 @@ allowed : (b : Bool) → (if b then None else Some Refusal.OutOfRange) ≡ None 
 allowed true e = refl
 allowed false e = absurd (true≢false (ap (λ o. is_some o) e))
 
-corner : (v : ℤ) → is_corner v ≡ true → IsPlace v
-corner v e = (grind (arith, ints), grind (arith, ints))
-
-side : (n : ℕ) → is_side n ≡ true → IsSide n
-side n e = let p = and_parts (nat_le 1 n) (nat_le n 1024) e in (leb-true 1 n p.0, leb-true n 1024 p.1)
-
 corners : (x y : ℤ) → (if is_corner x && is_corner y then None else Some Refusal.OutOfRange) ≡ None → IsPlace x × IsPlace y
-corners x y e = let p = and_parts (is_corner x) (is_corner y) (allowed (is_corner x && is_corner y) e) in (corner x p.0, corner y p.1)
+corners x y e = let p = and_parts (is_corner x) (is_corner y) (allowed (is_corner x && is_corner y) e) in (corner_is x p.0, corner_is y p.1)
 
 sides : (m n : ℕ) → (if is_side m && is_side n then None else Some Refusal.OutOfRange) ≡ None → IsSide m × IsSide n
-sides m n e = let p = and_parts (is_side m) (is_side n) (allowed (is_side m && is_side n) e) in (side m p.0, side n p.1)
+sides m n e = let p = and_parts (is_side m) (is_side n) (allowed (is_side m && is_side n) e) in (side_is m p.0, side_is n p.1)
 
 -- windows in range stay so
 pub without_ranged : (c : ℕ) (ws : List Window) → All WindowInRange ws → All WindowInRange (without_owner c ws)

@@ -1,17 +1,14 @@
 -- What a new stack touches: the windows that get a new stamp, and the rectangles that are painted in front.
-use Rattle.std.specs.Prelude.{ℕ, List, [], ◌∷◌, Bool, ◌&&◌, ◌≡◌, ◌≤◌, ◌<◌, if◌then◌else◌, nat_lt, nat_le, filter, Option, None, Some, All, AllPairs, false}
+use Rattle.std.specs.Prelude.{ℕ, List, [], ◌∷◌, ◌&&◌, ◌≡◌, ◌≤◌, ◌<◌, if◌then◌else◌, filter, Option, None, Some, All, AllPairs, false}
 use Rattle.std.specs.List.{range_with_len}
 use Rattle.dri_base.specs.declared.colour.Rgb.{Rgb}
 use Rattle.dri_base.specs.declared.scene.Window.{Window}
 use Rattle.dri_base.specs.declared.shape.ClipRect.{ClipRect}
+use Rattle.dri_base.specs.Planes.{in_rect}
 use Rattle.dri_clips.specs.declared.touched.Paint.{Paint}
 use Rattle.dri_clips.specs.declared.touched.Touched.{Touched}
 use Rattle.dri_clips.specs.Boards.{Screen}
 use Rattle.dri_model.specs.Stacks.{ground_colour, is_touched, same_top, top}
-
--- the rectangle has the pixel
-abbrev pub has_pixel : ClipRect → ℕ → ℕ → Bool
-has_pixel r x y = (nat_le r.x1 x && nat_lt x r.x2) && (nat_le r.y1 y && nat_lt y r.y2)
 
 -- the rectangle has a pixel, and lies on the screen
 pub record IsOnScreen (width height : ℕ) (r : ClipRect) : Type 0 where
@@ -22,17 +19,17 @@ pub record IsOnScreen (width height : ℕ) (r : ClipRect) : Type 0 where
 
 -- no pixel is in both
 abbrev pub AreApart : Paint → Paint → Type 0
-AreApart p q = (x y : ℕ) → (has_pixel p.rect x y && has_pixel q.rect x y) ≡ false
+AreApart p q = (x y : ℕ) → (in_rect p.rect x y && in_rect q.rect x y) ≡ false
 
 -- the colour that the pixel is painted with, if it is
 abbrev pub paint_at : List Paint → ℕ → ℕ → Option Rgb
 paint_at [] x y = None
-paint_at (p ∷ ps) x y = if has_pixel p.rect x y then Some p.colour else paint_at ps x y
+paint_at (p ∷ ps) x y = if in_rect p.rect x y then Some p.colour else paint_at ps x y
 
 -- front after the paints, one after the other
 abbrev pub filled : List Paint → (ℕ → ℕ → Rgb) → ℕ → ℕ → Rgb
 filled [] front x y = front x y
-filled (p ∷ ps) front x y = filled ps (λ a b. if has_pixel p.rect a b then p.colour else front a b) x y
+filled (p ∷ ps) front x y = filled ps (λ a b. if in_rect p.rect a b then p.colour else front a b) x y
 
 -- what a pixel is painted with under a new stack: the ground colour of the new topmost window, where the topmost window changed
 abbrev pub repaint : Rgb → List Window → List Window → ℕ → ℕ → Option Rgb

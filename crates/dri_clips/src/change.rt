@@ -1,13 +1,13 @@
 //! Which changes the board refuses, and the stack after one that it doesn't.
 
 ghost use Rattle.std.specs.Prelude.{◌≡◌, ◌&&◌, None, true, false, IfOk, OnOk, IfErr};
-ghost use Rattle.dri_model.specs.Stacks.{changed, is_corner, is_side, named_by, refusal, refused_at, stack_after, unmapped, without_owner};
+ghost use Rattle.dri_model.specs.Stacks.{changed, named_by, refusal, refused_at, stack_after, unmapped, without_owner};
 ghost use Rattle.dri_clips.specs.declared.change.ChangeFault.TheVariants.{OutOfMemory};
 ghost use Rattle.dri_clips.specs.Layouts.{IsPlaced};
 ghost use Rattle.dri_clips.specs.Refusals.{IsRefused, altered_by, destination};
 
 use crate::stack::Stack;
-use dri_base::{Change, OutOfMemory, Window};
+use dri_base::{Change, OutOfMemory, Window, is_corner, is_side};
 use thiserror::Error;
 
 /// Why a change isn't made: the board refuses it, by one of the first four, or memory is wanting.
@@ -54,20 +54,6 @@ fn named_by(change: &Change) -> u32
         Change::Raise { window } => window,
         Change::Lower { window } => window,
     }
-}
-
-/// Whether a window's corner may stand there.
-fn is_corner(place: i32) -> bool
-    ensures { result ≡ is_corner place }
-{
-    -1024 <= place && place <= 1024
-}
-
-/// Whether a window's side may be so long.
-fn is_side(side: u32) -> bool
-    ensures { result ≡ is_side side }
-{
-    1 <= side && side <= 1024
 }
 
 /// Whether both may be.

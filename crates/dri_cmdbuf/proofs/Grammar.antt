@@ -10,7 +10,8 @@ use Rattle.std.proofs.Math.Seq.{take-add}
 use Rattle.dri_base.specs.declared.shape.Triangle.{Triangle}
 use Rattle.dri_model.specs.CommandWords.{vertex_words, triangle_words, buffer_words, IsVertex, IsTriangle, Buffer}
 use Rattle.dri_cmdbuf.specs.Decoding.{is_good, vertex_of, triangle_of, triangles_of, IsWhole}
-use Rattle.dri_cmdbuf.proofs.Halves.{halved, low_of, coordinate_inside, coloured, colour_inside}
+use Rattle.dri_model.proofs.Values.{halved}
+use Rattle.dri_cmdbuf.proofs.Halves.{low_of, coordinate_inside, coloured, colour_inside}
 
 -- so many items of a list, from a place on
 abbrev picks : ℕ → ℕ → List ℕ → List ℕ

@@ -3,14 +3,9 @@ use Rattle.std.proofs.Common.{◌≡◌, ℕ, ◌+◌, ◌-◌, ◌*◌, ◌/◌
 use Rattle.std.proofs.lemmas.Int.{ints}
 use Rattle.std.proofs.lemmas.Bool.{cases_lt, lt-ltb, le-ltb, cond-true, cond-false}
 use Rattle.std.proofs.Math.Nat.{div-div-eq-div-mul}
-use Rattle.dri_model.specs.Words.{halves}
 use Rattle.dri_base.specs.Ranges.{IsVertexPlace}
 use Rattle.dri_model.specs.CommandWords.{low_half, colour_word, IsColour}
 use Rattle.dri_cmdbuf.specs.Decoding.{coordinate_of, colour_of}
-
--- the two halves of a word
-pub halved : (w : ℕ) → halves (w % 65536) (w / 65536) ≡ w
-halved w = omega arith
 
 low_pos : (n : ℕ) → low_half (pos n) ≡ n
 low_pos n = cond-false (int_lt (pos n) (pos 0)) (nat_abs (pos n +ℤ pos 65536)) n (grind (arith, ints))

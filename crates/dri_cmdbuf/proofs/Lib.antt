@@ -1,4 +1,3 @@
 pub mod Halves
 pub mod Grammar
 pub mod Places
-pub mod OneReading

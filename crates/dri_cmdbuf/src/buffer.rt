@@ -11,7 +11,7 @@ use dri_base::Triangle;
 use std::marker::Model;
 
 /// A push had no room: it needs more words than are free of the buffer's 4,096.
-#[derive(Clone, Copy, Debug, PartialEq, Eq)]
+#[derive(Clone, Copy, PartialEq, Eq)]
 pub struct BufferFull {
     pub need: u32,
     pub have: u32,

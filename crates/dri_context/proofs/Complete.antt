@@ -18,7 +18,7 @@ use Rattle.dri_base.specs.declared.texture.TexFormat.TheVariants.{L8, Rgb565}
 use Rattle.dri_base.specs.declared.shape.ClipRect.{ClipRect}
 use Rattle.dri_model.specs.Groups.{Groups, shade_word, depth_word, flag_word, blend_word, mode_word, wrap_word}
 use Rattle.dri_model.specs.Words.{format_word, halves, group_words, bound_words, scissor_words, IsBoundInRange, IsScissorInRange, Spelled}
-use Rattle.dri_context.specs.Reading.{Reader, is_side, run, opened, depth_of, bound_of, scissor_of}
+use Rattle.dri_context.specs.Reading.{Reader, is_texture_side, run, opened, depth_of, bound_of, scissor_of}
 use Rattle.dri_context.proofs.Numbers.{sides_fit, corner_fits}
 use Rattle.dri_context.proofs.Accepted.{between, within, from1, from2, from3, from4, from5, from6}
 
@@ -71,9 +71,9 @@ format_read Rgb565 base r f s ws = refl
 sides_read : (v : TexFormat) (w h : ℕ) (r : Registers) (base : ℕ) (ws : List ℕ) → 1 ≤ w → w ≤ 256 → 1 ≤ h → h ≤ 256
     → run (Some (record { registers = r; group = 5; at = 3; first = format_word v; second = base })) (halves w h ∷ ws) ≡ run (Some (between 6 (record r { bound = bound_of (format_word v) base (halves w h) }) (format_word v) base)) ws
 sides_read L8 w h r base ws a b c d =
-    ap (λ o. run o ws) (cond-true (is_side (halves w h % 65536) && is_side (halves w h / 65536)) (Some (between 6 (record r { bound = bound_of 1 base (halves w h) }) 1 base)) None (sides_fit w h a b c d))
+    ap (λ o. run o ws) (cond-true (is_texture_side (halves w h % 65536) && is_texture_side (halves w h / 65536)) (Some (between 6 (record r { bound = bound_of 1 base (halves w h) }) 1 base)) None (sides_fit w h a b c d))
 sides_read Rgb565 w h r base ws a b c d =
-    ap (λ o. run o ws) (cond-true (is_side (halves w h % 65536) && is_side (halves w h / 65536)) (Some (between 6 (record r { bound = bound_of 2 base (halves w h) }) 2 base)) None (sides_fit w h a b c d))
+    ap (λ o. run o ws) (cond-true (is_texture_side (halves w h % 65536) && is_texture_side (halves w h / 65536)) (Some (between 6 (record r { bound = bound_of 2 base (halves w h) }) 2 base)) None (sides_fit w h a b c d))
 
 -- the reader comes between groups
 record Ends (o : Option Reader) : Type 0 where

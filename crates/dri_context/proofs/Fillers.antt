@@ -10,7 +10,7 @@ use Rattle.dri_base.specs.declared.state.TexMode.TheVariants as Mode_is
 use Rattle.dri_base.specs.declared.state.Wrap.TheVariants as Wrap_is
 use Rattle.dri_model.specs.Words.{Spelled}
 use Rattle.dri_model.specs.WordFaults.{Begins, IsWrongWord, IsCutShort}
-use Rattle.dri_context.specs.Reading.{Reader, IsReader, is_side, size, depth_of, bound_of, scissor_of, after, run, opened}
+use Rattle.dri_context.specs.Reading.{Reader, IsReader, is_texture_side, size, depth_of, bound_of, scissor_of, after, run, opened}
 use Rattle.dri_context.proofs.Runs.{run-append, run_more, some_same, none_some}
 use Rattle.dri_context.proofs.Accepted.{between, accepted}
 use Rattle.dri_context.proofs.Complete.{complete}
@@ -31,7 +31,7 @@ either : (b : Bool) → (if b then true else true) ≡ true
 either true = refl
 either false = refl
 
-sides : (b : Bool) → (if b then (if b then 0 else 65537) == 0 else (is_side ((if b then 0 else 65537) % 65536) && is_side ((if b then 0 else 65537) / 65536))) ≡ true
+sides : (b : Bool) → (if b then (if b then 0 else 65537) == 0 else (is_texture_side ((if b then 0 else 65537) % 65536) && is_texture_side ((if b then 0 else 65537) / 65536))) ≡ true
 sides true = refl
 sides false = refl
 
@@ -45,7 +45,7 @@ third_bound r f s =
     record {
       rest = w ∷ [];
       reader = end;
-      comes = ap (λ o. run o []) (cond-true (if f == 0 then w == 0 else (is_side (w % 65536) && is_side (w / 65536))) (Some end) None (sides (f == 0)));
+      comes = ap (λ o. run o []) (cond-true (if f == 0 then w == 0 else (is_texture_side (w % 65536) && is_texture_side (w / 65536))) (Some end) None (sides (f == 0)));
       done = refl;
     }
 

@@ -49,12 +49,12 @@ abbrev pub size : ℕ → ℕ
 size g = if g == 1 then 2 else (if g == 5 || g == 6 then 3 else 1)
 
 -- a side of a bound image
-abbrev pub is_side : ℕ → Bool
-is_side n = nat_le 1 n && nat_le n 256
+abbrev pub is_texture_side : ℕ → Bool
+is_texture_side n = nat_le 1 n && nat_le n 256
 
 -- word `at` of a bound texture, counted from 1, behind its first word
 abbrev pub fits_bound : ℕ → ℕ → ℕ → Bool
-fits_bound at first w = if at == 1 then nat_lt w 3 else (if first == 0 then w == 0 else (if at == 2 then true else is_side (w % 65536) && is_side (w / 65536)))
+fits_bound at first w = if at == 1 then nat_lt w 3 else (if first == 0 then w == 0 else (if at == 2 then true else is_texture_side (w % 65536) && is_texture_side (w / 65536)))
 
 -- and of a scissor
 abbrev pub fits_scissor : ℕ → ℕ → ℕ → Bool

@@ -32,28 +32,6 @@ impl Model for ContextState {
     ghost invariant = { λ c. IsScissorInRange c.state.scissor };
 }
 
-// The state after one setting.
-fn with_setting(state: State, setting: &Setting) -> State
-    ensures { result ≡ with_setting setting.now state }
-{
-    match *setting {
-        Setting::Shade(shade) => State { shade, ..state },
-        Setting::DepthFunc(depth_func) => State {
-            depth_func,
-            ..state
-        },
-        Setting::DepthWrite(depth_write) => State {
-            depth_write,
-            ..state
-        },
-        Setting::Blend(blend) => State { blend, ..state },
-        Setting::TexMode(tex_mode) => State { tex_mode, ..state },
-        Setting::Wrap(wrap) => State { wrap, ..state },
-        Setting::Bind(bound) => State { bound, ..state },
-        Setting::Scissor(scissor) => State { scissor, ..state },
-    }
-}
-
 // Whether both states have one depth function and one depth write.
 fn same_depth(old: &State, new: &State) -> bool
     ensures { result ≡ ((depth_word old.now.depth_func == depth_word new.now.depth_func) && (flag_word old.now.depth_write == flag_word new.now.depth_write)) }
@@ -121,9 +99,9 @@ impl ContextState {
         ensures state { self.new.state ≡ with_setting setting.now self.old.state }
         ensures dirty { self.new.dirty ≡ dirtied self.old.state (with_setting setting.now self.old.state) self.old.dirty }
     {
-        let new = with_setting(self.state, setting);
-        self.dirty = dirtied(&self.state, &new, self.dirty);
-        self.state = new;
+        let old = self.state;
+        self.state.set(setting);
+        self.dirty = dirtied(&old, &self.state, self.dirty);
     }
 
     /// Makes all groups dirty.

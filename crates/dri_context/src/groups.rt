@@ -6,7 +6,7 @@ ghost use Rattle.dri_model.specs.Groups.{all_groups, no_groups, bits, is_empty, 
 use std::marker::Model;
 
 /// A set of the seven groups: shade, depth, blend, texture mode, wrap, bound texture, scissor.
-#[derive(Clone, Copy, Debug)]
+#[derive(Clone, Copy)]
 pub struct Groups {
     pub(crate) shade: bool,
     pub(crate) depth: bool,

@@ -2,7 +2,7 @@
 //! one of the group's words, and with the last of these the group's registers change.
 
 ghost use Rattle.std.specs.Prelude.{◌≡◌, ◌≤◌, ◌+◌, ◌*◌, IfSome};
-ghost use Rattle.dri_context.specs.Reading.{shade_of, depth_of, blend_of, mode_of, wrap_of, format_of, is_side, fits_bound, fits_scissor, IsReader, bound_of, scissor_of, fits, size, with_group, header_read, word_taken, after, opened};
+ghost use Rattle.dri_context.specs.Reading.{shade_of, depth_of, blend_of, mode_of, wrap_of, format_of, is_texture_side, fits_bound, fits_scissor, IsReader, bound_of, scissor_of, fits, size, with_group, header_read, word_taken, after, opened};
 
 use dri_base::{
     Blend, BoundTexture, ClipRect, DepthFunc, Registers, Shade, TexFormat, TexMode, TexShape, Wrap,
@@ -122,8 +122,8 @@ fn size(group: u32) -> u32
     }
 }
 
-fn is_side(side: u32) -> bool
-    ensures { result ≡ is_side side }
+fn is_texture_side(side: u32) -> bool
+    ensures { result ≡ is_texture_side side }
 {
     1 <= side && side <= 256
 }
@@ -141,7 +141,7 @@ fn fits_bound(at: u32, first: u32, word: u32) -> bool
     if at == 2 {
         return true;
     }
-    is_side(word % 65_536) && is_side(word / 65_536)
+    is_texture_side(word % 65_536) && is_texture_side(word / 65_536)
 }
 
 // The same of a scissor.

@@ -3,7 +3,7 @@
 use dri_base::Entry;
 
 /// What a client finds once the kernel let it in: its window's stamp is the one that it was told, or another.
-#[derive(Clone, Copy, Debug, PartialEq, Eq)]
+#[derive(Clone, Copy)]
 pub enum Checked {
     Go,
     Stale,
@@ -11,7 +11,7 @@ pub enum Checked {
 
 /// What an acting client did: it made an event, whose entry this is; or nothing, since it must leave the lock with a
 /// command left, its next command is its death, or it must leave and no command is left.
-#[derive(Clone, Copy, Debug, PartialEq, Eq)]
+#[derive(Clone, Copy)]
 pub enum Acted {
     Ran { entry: Entry },
     MustLeave,

@@ -151,7 +151,7 @@ impl Source for NeverFails {
 }
 
 /// A sink that takes each piece whole and tells nothing.
-#[derive(Clone, Copy, Debug)]
+#[derive(Clone, Copy)]
 pub struct NullSink;
 
 impl NullSink {

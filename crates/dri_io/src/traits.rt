@@ -5,7 +5,7 @@ ghost use Rattle.std.specs.Io.KnownBytes.{ReadConsumes, WriteAppends};
 ghost use Rattle.dri_io.specs.Causes.{GivesOn, HasCause, TakesOn};
 
 /// A read or a write that failed.
-#[derive(Clone, Copy, Debug, PartialEq, Eq)]
+#[derive(Clone, Copy)]
 pub struct Failed;
 
 /// A source of bytes. It may tell what is left of it, and it counts its failed reads.

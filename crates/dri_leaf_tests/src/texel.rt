@@ -56,7 +56,7 @@ fn draw_round_the_depth(rt: &impl Abort, depth_func: DepthFunc, drawn: [bool; 3]
         } else {
             UNDER.colour
         };
-        assert_eq!(rt; left, Pixel { colour, depth: 500 });
+        assert!(rt; left == Pixel { colour, depth: 500 });
     }
 }
 
@@ -100,10 +100,8 @@ fn colours(rt: HostRuntime) {
             tex_mode,
             ..PLAIN
         };
-        assert_eq!(rt;
-            fragment(&registers, texel, COLOUR, 500, UNDER).colour,
-            colour
-        );
+        let left = fragment(&registers, texel, COLOUR, 500, UNDER);
+        assert!(rt; left.colour == colour);
     }
 }
 
@@ -114,7 +112,7 @@ fn texels(rt: HostRuntime) {
         width: 1,
         height: 1,
     };
-    assert_eq!(rt; fetch(&MEMORY, 0, &grey, Wrap::Repeat, 5, 99), rgb(9, 9, 9));
+    assert!(rt; fetch(&MEMORY, 0, &grey, Wrap::Repeat, 5, 99) == rgb(9, 9, 9));
     let coloured = TexShape {
         format: TexFormat::Rgb565,
         width: 2,
@@ -129,6 +127,6 @@ fn texels(rt: HostRuntime) {
         (Wrap::Clamp, 32, 0, rgb(0, 4, 0)),
         (Wrap::Clamp, 0, 65535, rgb(0, 0, 8)),
     ] {
-        assert_eq!(rt; fetch(&MEMORY, 1, &coloured, wrap, s, t), colour);
+        assert!(rt; fetch(&MEMORY, 1, &coloured, wrap, s, t) == colour);
     }
 }

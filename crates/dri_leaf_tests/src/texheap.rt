@@ -65,7 +65,7 @@ fn look_at_entries(rt: &impl Abort, regions: &Regions, entries: &[(u8, u8, u8, u
             age: *age,
         };
         assert!(rt; i <= regions.count() as usize);
-        assert_eq!(rt; regions.region(i as u32), entry);
+        assert!(rt; regions.region(i as u32) == entry);
     }
 }
 
@@ -109,8 +109,8 @@ fn eight_regions(rt: HostRuntime) {
 #[test]
 fn too_large(rt: HostRuntime) {
     let mut regions = Regions::new(2);
-    assert_eq!(rt; regions.allocate(3), Err(TooLarge { need: 3, have: 2 }));
-    assert_eq!(rt; regions.allocate(2), Ok(Run { first: 0, count: 2 }));
+    assert!(rt; regions.allocate(3) == Err(TooLarge { need: 3, have: 2 }));
+    assert!(rt; regions.allocate(2) == Ok(Run { first: 0, count: 2 }));
 }
 
 #[test]
@@ -128,17 +128,17 @@ fn losses(rt: HostRuntime) {
     let mut regions = Regions::new(4);
     let one = Run { first: 0, count: 1 };
     let two = Run { first: 1, count: 2 };
-    assert_eq!(rt; regions.allocate(1), Ok(one));
-    assert_eq!(rt; regions.allocate(2), Ok(two));
+    assert!(rt; regions.allocate(1) == Ok(one));
+    assert!(rt; regions.allocate(2) == Ok(two));
     let mut placed = Placed::new(rt.alloc(), 3).expect(&rt, "memory");
     placed.set(1, one);
     placed.set(2, two);
     // The ages of the regions of one are 1, and of two 2.
     assert!(rt; placed.lose(&regions, 1, Some(2)));
-    assert_eq!(rt; placed.resident(1), Some(one));
-    assert_eq!(rt; placed.resident(2), None);
+    assert!(rt; placed.resident(1) == Some(one));
+    assert!(rt; placed.resident(2) == None);
     assert!(rt; !placed.lose(&regions, 0, Some(2)));
-    assert_eq!(rt; placed.resident(1), None);
-    assert_eq!(rt; placed.resident(0), None);
-    assert_eq!(rt; placed.resident(4), None);
+    assert!(rt; placed.resident(1) == None);
+    assert!(rt; placed.resident(0) == None);
+    assert!(rt; placed.resident(4) == None);
 }

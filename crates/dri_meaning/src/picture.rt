@@ -17,7 +17,7 @@ use std::alloc::Global;
 pub type Pixels = Sequence<Rgb>;
 
 /// A picture: its sides, and its pixels row by row.
-#[derive(Debug, Drop)]
+#[derive(Drop)]
 pub struct Picture {
     pub width: u32,
     pub height: u32,

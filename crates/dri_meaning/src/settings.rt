@@ -1,40 +1,19 @@
 //! What a script's settings make of its state. The state is one value, and each command gives the next.
 
 ghost use Rattle.std.specs.Prelude.{◌≡◌, ◌≤◌, ◌<◌, length};
-ghost use Rattle.dri_base.specs.States.{state_after, state_at, with_setting};
+ghost use Rattle.dri_base.specs.States.{state_after, state_at};
 
-use dri_base::{Command, Setting, State};
-
-/// The state after one setting.
-fn with_setting(setting: &Setting, state: State) -> State
-    ensures { result ≡ with_setting setting.now state }
-{
-    match *setting {
-        Setting::Shade(shade) => State { shade, ..state },
-        Setting::DepthFunc(depth_func) => State {
-            depth_func,
-            ..state
-        },
-        Setting::DepthWrite(depth_write) => State {
-            depth_write,
-            ..state
-        },
-        Setting::Blend(blend) => State { blend, ..state },
-        Setting::TexMode(tex_mode) => State { tex_mode, ..state },
-        Setting::Wrap(wrap) => State { wrap, ..state },
-        Setting::Bind(bound) => State { bound, ..state },
-        Setting::Scissor(scissor) => State { scissor, ..state },
-    }
-}
+use dri_base::{Command, State};
 
 /// The state after one command.
 pub fn state_after(command: &Command, state: State) -> State
     ensures { result ≡ state_after command.now state }
 {
-    match command {
-        Command::Set(setting) => with_setting(setting, state),
-        _ => state,
+    let mut after = state;
+    if let Command::Set(setting) = command {
+        after.set(setting);
     }
+    after
 }
 
 /// The state before the command at a place, counted from 1.

@@ -9,6 +9,7 @@ use Rattle.dri_base.specs.Ranges.{IsVertexPlace}
 use Rattle.dri_base.specs.declared.colour.Rgba.{Rgba}
 use Rattle.dri_base.specs.declared.shape.Triangle.{Triangle}
 use Rattle.dri_base.specs.declared.shape.Vertex.{Vertex}
+use Rattle.dri_model.proofs.Spelling.{cons_same, nil_cons}
 use Rattle.dri_model.specs.CommandWords.{low_half, colour_word, vertex_words, triangle_words, buffer_words, IsColour, IsVertex, IsTriangle, Buffer}
 use Rattle.dri_model.specs.Words.{halves}
 
@@ -28,9 +29,6 @@ low_same x y r t e = by_signs (int_lt x (pos 0)) refl (int_lt y (pos 0)) refl
     by_signs true p false q = let h : nat_abs (x +ℤ pos 65536) ≡ nat_abs y = rw (p, q) at e in omega (arith, ints, p, q, h, r.0, r.1, t.0, t.1)
     by_signs false p true q = let h : nat_abs x ≡ nat_abs (y +ℤ pos 65536) = rw (p, q) at e in omega (arith, ints, p, q, h, r.0, r.1, t.0, t.1)
     by_signs false p false q = let h : nat_abs x ≡ nat_abs y = rw (p, q) at e in omega (arith, ints, p, q, h, r.0, r.1, t.0, t.1)
-
-cons_same : (x y : ℕ) (xs ys : List ℕ) → x ∷ xs ≡ y ∷ ys → (x ≡ y) × (xs ≡ ys)
-cons_same x y xs ys e = (cc, cc)
 
 -- numbers of sixteen bits in one word
 halves_same : (a b c d : ℕ) → a ≤ 65535 → c ≤ 65535 → halves a b ≡ halves c d → (a ≡ c) × (b ≡ d)
@@ -95,13 +93,10 @@ triangle_front t u xs ys r k e = (λ i. record { a = a.0 i; b = b.0 i; c = c.0 i
     c : (t.c ≡ u.c) × (xs ≡ ys)
     c = vertex_front t.c u.c xs ys r.c k.c b.1
 
-cons_none : (x : ℕ) (xs : List ℕ) → [] ≡ x ∷ xs → ⊥
-cons_none x xs e = grind arith
-
-triangles_same : (ts us : List Triangle) → All IsTriangle ts → All IsTriangle us → buffer_words ts ≡ buffer_words us → ts ≡ us
+pub triangles_same : (ts us : List Triangle) → All IsTriangle ts → All IsTriangle us → buffer_words ts ≡ buffer_words us → ts ≡ us
 triangles_same [] [] a b e = refl
-triangles_same [] (u ∷ us) a b e = absurd (cons_none _ _ e)
-triangles_same (t ∷ ts) [] a b e = absurd (cons_none _ _ (sym e))
+triangles_same [] (u ∷ us) a b e = absurd (nil_cons e)
+triangles_same (t ∷ ts) [] a b e = absurd (nil_cons (sym e))
 triangles_same (t ∷ ts) (u ∷ us) a b e =
     let h = triangle_front t u (buffer_words ts) (buffer_words us) (All-head IsTriangle t ts a) (All-head IsTriangle u us b) e in
     let rest = triangles_same ts us (All-tail IsTriangle t ts a) (All-tail IsTriangle u us b) h.1 in

@@ -1,6 +1,7 @@
 -- A list of words goes wrong at one place at most.
 use Rattle.std.proofs.Common.{◌≡◌, ◌≤◌, ◌+◌, ℕ, zero, suc, List, [], ◌∷◌, ◌++◌, Some, arith, refl, sym, ap, ◌∙◌, inl, inr, subst}
 use Rattle.std.specs.Prelude.{take, slice_get}
+use Rattle.std.proofs.lemmas.List.{append-nil}
 use Rattle.dri_model.specs.WordFaults.{Begins, IsWrongWord, IsBadWord, HasOneFault}
 
 append_assoc : (xs ys zs : List ℕ) → (xs ++ ys) ++ zs ≡ xs ++ (ys ++ zs)
@@ -56,13 +57,9 @@ one_word Kind words a v b w (inl p) (inr q) = absurd (not_cut Kind words a v p q
 one_word Kind words a v b w (inr p) (inl q) = absurd (not_cut Kind words b w q p.before)
 one_word Kind words a v b w (inr p) (inr q) = p.zero ∙ sym q.zero
 
-append_none : (xs : List ℕ) → xs ++ [] ≡ xs
-append_none [] = refl
-append_none (x ∷ xs) = ap (λ t. x ∷ t) (append_none xs)
-
 -- a list of the kind has no fault
 pub no_fault : (Kind : List ℕ → Type 0) (words : List ℕ) (a v : ℕ) → IsBadWord Kind words a v → Kind words → ⊥
-no_fault Kind words a v (inl p) kind = not_cut Kind words a v p ([], subst Kind (sym (append_none words)) kind)
+no_fault Kind words a v (inl p) kind = not_cut Kind words a v p ([], subst Kind (sym (append-nil words)) kind)
 no_fault Kind words a v (inr p) kind = p.short kind
 
 pub has_one_fault : (Kind : List ℕ → Type 0) (words : List ℕ) → HasOneFault Kind words

@@ -11,13 +11,13 @@ use Rattle.dri_model.specs.Groups.{Groups, shade_word, depth_word, flag_word, bl
 use Rattle.dri_model.specs.Words.{loaded, format_word, halves, bound_words, scissor_words, group_words, IsBoundInRange, IsScissorInRange, Spelled}
 use Rattle.dri_model.proofs.Values.{shade_of, shade_is, flag_of, flag_is, depth_of, depth_is, blend_of, blend_is, mode_of, mode_is, wrap_of, wrap_is}
 
-cons_same : (x y : ℕ) (xs ys : List ℕ) → x ∷ xs ≡ y ∷ ys → (x ≡ y) × (xs ≡ ys)
+pub cons_same : (x y : ℕ) (xs ys : List ℕ) → x ∷ xs ≡ y ∷ ys → (x ≡ y) × (xs ≡ ys)
 cons_same x y xs ys e = (cc, cc)
 
-nil_cons : {x : ℕ} {xs : List ℕ} → [] ≡ x ∷ xs → ⊥
+pub nil_cons : {x : ℕ} {xs : List ℕ} → [] ≡ x ∷ xs → ⊥
 nil_cons e = grind arith
 
-append_same : (xs ys r t : List ℕ) → length xs ≡ length ys → xs ++ r ≡ ys ++ t → (xs ≡ ys) × (r ≡ t)
+pub append_same : (xs ys r t : List ℕ) → length xs ≡ length ys → xs ++ r ≡ ys ++ t → (xs ≡ ys) × (r ≡ t)
 append_same [] [] r t l e = (refl, e)
 append_same [] (y ∷ ys) r t l e = absurd (omega (arith, l))
 append_same (x ∷ xs) [] r t l e = absurd (omega (arith, l))

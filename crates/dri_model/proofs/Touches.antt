@@ -1,14 +1,14 @@
 -- What a change does to stamps and clips.
-use Rattle.std.proofs.Common.{◌≡◌, ◌<◌, ◌≤◌, ◌+◌, ◌-◌, ℕ, zero, suc, List, Bool, true, false, not, arith, refl, sym, subst}
+use Rattle.std.proofs.Common.{◌≡◌, ◌<◌, ◌≤◌, ◌+◌, ◌-◌, ℕ, zero, suc, List, Bool, true, false, arith, refl, sym, subst}
 use Rattle.std.specs.Prelude.{nat_lt}
 use Rattle.std.specs.Ordering.{int_eq}
-use Rattle.std.proofs.lemmas.Bool.{and_parts, true≢false}
+use Rattle.std.proofs.lemmas.Bool.{and_parts, true≢false, not-false}
 use Rattle.std.proofs.lemmas.Bool.Decides.{nat_tests, Decides-int_eq}
 use Rattle.dri_base.specs.declared.scene.Window.{Window}
 use Rattle.dri_model.specs.Stacks.{clips, origin, same_bool, same_set, same_origin, is_touched}
 use Rattle.dri_model.specs.Counting.{all_below, how_many}
 
-same_bool_is : (a b : Bool) → same_bool a b ≡ true → a ≡ b
+pub same_bool_is : (a b : Bool) → same_bool a b ≡ true → a ≡ b
 same_bool_is true true e = refl
 same_bool_is false false e = refl
 same_bool_is true false e = absurd (true≢false (sym e))
@@ -22,16 +22,12 @@ pub same_set_at : (width height : ℕ) (f g : ℕ → ℕ → Bool) (x y : ℕ) 
 same_set_at width height f g x y e lx ly =
     same_bool_is _ _ (all_below_at (λ y. same_bool (f x y) (g x y)) height y (all_below_at (λ x. all_below (λ y. same_bool (f x y) (g x y)) height) width x e lx) ly)
 
-not_false : (b : Bool) → not b ≡ false → b ≡ true
-not_false true e = refl
-not_false false e = absurd (true≢false e)
-
 -- where a window isn't touched, its clips and its origin are as before
 pub clips_kept : (width height : ℕ) (old new : List Window) (n x y : ℕ) → is_touched width height old new n ≡ false → clips width height new n x y ≡ clips width height old n x y
 clips_kept width height old new n x y e = inside (nat_lt x width) (nat_lt y height) refl refl
   where
     same : same_set width height (clips width height old n) (clips width height new n) ≡ true
-    same = (and_parts _ _ (not_false _ e)).0
+    same = (and_parts _ _ (not-false _ e)).0
 
     inside : (a b : Bool) → nat_lt x width ≡ a → nat_lt y height ≡ b → clips width height new n x y ≡ clips width height old n x y
     inside true true p q = sym (same_set_at width height (clips width height old n) (clips width height new n) x y same (grind (arith, nat_tests)) (grind (arith, nat_tests)))
@@ -42,7 +38,7 @@ pub origin_kept : (width height : ℕ) (old new : List Window) (n : ℕ) → is_
 origin_kept width height old new n e = both
   where
     parts : (int_eq (origin old n).0 (origin new n).0 ≡ true) × (int_eq (origin old n).1 (origin new n).1 ≡ true)
-    parts = and_parts (int_eq (origin old n).0 (origin new n).0) (int_eq (origin old n).1 (origin new n).1) (and_parts (same_set width height (clips width height old n) (clips width height new n)) (same_origin (origin old n) (origin new n)) (not_false _ e)).1
+    parts = and_parts (int_eq (origin old n).0 (origin new n).0) (int_eq (origin old n).1 (origin new n).1) (and_parts (same_set width height (clips width height old n) (clips width height new n)) (same_origin (origin old n) (origin new n)) (not-false _ e)).1
 
     left : (origin new n).0 ≡ (origin old n).0
     left = sym ((Decides-int_eq _ _).0 parts.0)

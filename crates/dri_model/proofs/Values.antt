@@ -1,5 +1,5 @@
 -- Values that have one number in a register word are one value.
-use Rattle.std.proofs.Common.{◌≡◌, ℕ, zero, suc, Bool, true, false, not, Option, Some, None, arith, refl, sym, ap, ◌∙◌}
+use Rattle.std.proofs.Common.{◌≡◌, ◌/◌, ◌%◌, ℕ, zero, suc, Bool, true, false, not, Option, Some, None, arith, refl, sym, ap, ◌∙◌}
 use Rattle.std.specs.Prelude.{◌==◌}
 use Rattle.std.proofs.lemmas.Bool.{true≢false}
 use Rattle.std.proofs.lemmas.Bool.Decides.{nat_tests}
@@ -15,6 +15,7 @@ use Rattle.dri_base.specs.declared.state.TexMode.TheVariants as Mode_is
 use Rattle.dri_base.specs.declared.state.Wrap.{Wrap}
 use Rattle.dri_base.specs.declared.state.Wrap.TheVariants as Wrap_is
 use Rattle.dri_model.specs.Groups.{shade_word, depth_word, blend_word, mode_word, wrap_word, flag_word, same_number, same_rect}
+use Rattle.dri_model.specs.Words.{halves}
 
 -- values with one word are one
 abbrev pub shade_of : ℕ → Shade
@@ -122,3 +123,7 @@ one_rect (Some a) (Some b) e = λ i. Some (record { x1 = x1 i; y1 = y1 i; x2 = x
 
     y2 : a.y2 ≡ b.y2
     y2 = grind (arith, nat_tests)
+
+-- a word's two halves are the word
+pub halved : (w : ℕ) → halves (w % 65536) (w / 65536) ≡ w
+halved w = omega arith

@@ -1,5 +1,5 @@
 -- A heap of eight regions and the two triangles of a square, worked by hand.
-use Rattle.std.specs.Prelude.{ℕ, ◌+◌, List, [], ◌∷◌, map, filter, get_or, Bool, ◌==◌, not, pos}
+use Rattle.std.specs.Prelude.{ℕ, List, [], ◌∷◌, map, filter, get_or, Bool, ◌==◌, not, pos}
 use Rattle.dri_base.specs.declared.colour.Rgba.{Rgba}
 use Rattle.dri_base.specs.declared.shape.Triangle.{Triangle}
 use Rattle.dri_base.specs.declared.shape.Vertex.{Vertex}

@@ -1,10 +1,11 @@
 -- The stack of windows, from top to bottom.
-use Rattle.std.specs.Prelude.{ℕ, List, [], ◌∷◌, ◌++◌, map, filter, Bool, true, false, ◌&&◌, not, ◌==◌, nat_lt, nat_le, if◌then◌else◌, Option, Some, None, ℤ, pos, neg_ℤ, ◌+◌, ◌+ℤ◌, int_lt, int_le}
+use Rattle.std.specs.Prelude.{ℕ, List, [], ◌∷◌, ◌++◌, map, filter, Bool, true, false, ◌&&◌, not, ◌==◌, nat_lt, if◌then◌else◌, Option, Some, None, ℤ, pos, ◌+◌, ◌+ℤ◌, int_lt, int_le}
 use Rattle.std.specs.Ordering.{int_eq}
 use Rattle.dri_base.specs.declared.colour.Rgb.{Rgb}
 use Rattle.dri_base.specs.declared.scene.Window.{Window}
 use Rattle.dri_base.specs.declared.command.Change.{Change}
 use Rattle.dri_base.specs.declared.command.Change.TheVariants.{Map, Unmap, Move, Resize, Raise, Lower}
+use Rattle.dri_base.specs.Ranges.{is_corner, is_side}
 use Rattle.dri_model.specs.Counting.{all_below, how_many}
 
 -- the window's rectangle has the pixel
@@ -42,14 +43,6 @@ pub data Refusal : Type 0 where
   OutOfRange : Refusal
   AlreadyMapped : Refusal
   NotMapped : Refusal
-
--- a window's corner may stand there
-abbrev pub is_corner : ℤ → Bool
-is_corner v = int_le (neg_ℤ (pos 1024)) v && int_le v (pos 1024)
-
--- a window's side may be so long
-abbrev pub is_side : ℕ → Bool
-is_side n = nat_le 1 n && nat_le n 1024
 
 -- why a change of this window is refused: by its numbers first, then by what is mapped
 abbrev pub refused_at : Change → Window → Option Refusal

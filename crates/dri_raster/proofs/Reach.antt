@@ -14,7 +14,8 @@ use Rattle.dri_raster.specs.Edges.{IsPixel}
 use Rattle.dri_raster.specs.Spans.{in_bounds}
 use Rattle.dri_raster.specs.Reach.{CoveredIsAmid}
 use Rattle.dri_raster.proofs.Rings.{mul_plus, plus_mul, mul_neg, neg_mul, mul_assoc}
-use Rattle.dri_raster.proofs.Quantities.{area_turned, edges_add, first_of, second_of, within_sign}
+use Rattle.dri_raster.proofs.Quantities.{area_turned, edges_add, first_of, second_of}
+use Rattle.dri_base.proofs.Quantities.{within_above}
 
 rotate : (u v w : ℤ) → (u *ℤ v) *ℤ w ≡ (v *ℤ w) *ℤ u
 rotate u v w = mul_assoc u v w ∙ *ℤ_comm u (v *ℤ w)
@@ -109,7 +110,7 @@ inside t p h =
     let others = second_of (is_within (corner t.a) (corner t.b) p) _ h in
     let bc = first_of (is_within (corner t.b) (corner t.c) p) _ others in
     let ca = second_of (is_within (corner t.b) (corner t.c) p) _ others in
-    record { bc = within_sign _ _ bc; ca = within_sign _ _ ca; ab = within_sign _ _ ab }
+    record { bc = within_above _ _ bc; ca = within_above _ _ ca; ab = within_above _ _ ab }
 
 -- three distances whose sum is nothing aren't those of a covered centre
 pub not_none : (t : Triangle) (x y : ℤ) → covers t x y ≡ true → (edge (corner (turned t).b) (corner (turned t).c) (centre x y) +ℤ edge (corner (turned t).c) (corner (turned t).a) (centre x y)) +ℤ edge (corner (turned t).a) (corner (turned t).b) (centre x y) ≡ pos 0 → ⊥

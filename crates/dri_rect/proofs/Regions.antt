@@ -4,6 +4,7 @@ use Rattle.std.specs.Prelude.{ℤ, pos, ◌<ℤ◌, ◌≤ℤ◌, ◌-ℤ◌, �
 use Rattle.std.specs.List.{AllByRecursion}
 use Rattle.std.proofs.lemmas.Int.{ints, by_lt_z}
 use Rattle.std.proofs.lemmas.Bool.{true≢false}
+use Rattle.dri_base.proofs.Shifts.{le_moved, lt_moved}
 use Rattle.dri_base.specs.declared.shape.Rect.{Rect}
 use Rattle.dri_rect.proofs.Unique.{found}
 use Rattle.dri_rect.specs.Pixels.{In, in_columns, in_lines, has_pixel, inside, IsInRange, IsProper, Follows, IsBanded, StaysInRange, SameLine, IsTopped, moved, shift}
@@ -68,36 +69,6 @@ all_range_fits [] a = tt
 all_range_fits (r ∷ rs) a = (range_fits r a.0, all_range_fits rs a.1)
 
 -- moved
-le_moved : (a b d : ℤ) → int_le (a +ℤ d) b ≡ int_le a (b -ℤ d)
-le_moved a b d = by_lt_z b (a +ℤ d) (λ h. no h ∙ sym (no' h)) (λ h. yes h ∙ sym (yes' h))
-  where
-    no : b <ℤ (a +ℤ d) → int_le (a +ℤ d) b ≡ false
-    no h = grind (arith, ints)
-
-    no' : b <ℤ (a +ℤ d) → int_le a (b -ℤ d) ≡ false
-    no' h = grind (arith, ints)
-
-    yes : (a +ℤ d) ≤ℤ b → int_le (a +ℤ d) b ≡ true
-    yes h = grind (arith, ints)
-
-    yes' : (a +ℤ d) ≤ℤ b → int_le a (b -ℤ d) ≡ true
-    yes' h = grind (arith, ints)
-
-lt_moved : (a b d : ℤ) → int_lt b (a +ℤ d) ≡ int_lt (b -ℤ d) a
-lt_moved a b d = by_lt_z b (a +ℤ d) (λ h. yes h ∙ sym (yes' h)) (λ h. no h ∙ sym (no' h))
-  where
-    yes : b <ℤ (a +ℤ d) → int_lt b (a +ℤ d) ≡ true
-    yes h = grind (arith, ints)
-
-    yes' : b <ℤ (a +ℤ d) → int_lt (b -ℤ d) a ≡ true
-    yes' h = grind (arith, ints)
-
-    no : (a +ℤ d) ≤ℤ b → int_lt b (a +ℤ d) ≡ false
-    no h = grind (arith, ints)
-
-    no' : (a +ℤ d) ≤ℤ b → int_lt (b -ℤ d) a ≡ false
-    no' h = grind (arith, ints)
-
 pub inside_moved : (dx dy : ℤ) (rs : List Rect) (x y : ℤ) → inside (moved dx dy rs) x y ≡ inside rs (x -ℤ dx) (y -ℤ dy)
 inside_moved dx dy [] x y = refl
 inside_moved dx dy (r ∷ rs) x y = rw (le_moved r.y1 y dy, lt_moved r.y2 y dy, le_moved r.x1 x dx, lt_moved r.x2 x dx, inside_moved dx dy rs x y) refl

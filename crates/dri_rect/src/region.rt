@@ -12,7 +12,7 @@ use std::sync::ledger::Ledger;
 
 /// A set of pixels with coordinates from -4,096 to 4,096. Contracts see it as its rectangles, of which there is one list
 /// for each set.
-#[derive(Debug, Drop)]
+#[derive(Drop)]
 pub struct Region {
     rects: Vec<Rect>,
 }

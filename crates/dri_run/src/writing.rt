@@ -10,7 +10,7 @@ use dri_base::Bytes;
 use dri_io::{Sink, write_all};
 
 /// What a run has to write.
-#[derive(Debug, Drop)]
+#[derive(Drop)]
 pub struct Output {
     pub picture: Bytes,
     pub notes: Bytes,

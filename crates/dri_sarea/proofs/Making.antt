@@ -39,10 +39,7 @@ any_fits : (v : ℕ) → v < 4294967296 → fits (number Any) v ≡ true
 any_fits v s = rw (less_true v 4294967296 s) refl
 
 size_fits : (v : ℕ) → v < 4294967296 → IsRegionSize v → fits (number RegionSize) v ≡ true
-size_fits v s sized = rw (less_true v 4294967296 s) (any_at (λ k. v == 2 ^ k) 8 9 sized.0 sized.1.0 (omega (arith, sized.1.1)) (same v (2 ^ sized.0) sized.2))
-  where
-    same : (a b : ℕ) → a ≡ b → (a == b) ≡ true
-    same a b e = grind (arith, nat_tests)
+size_fits v s sized = rw (less_true v 4294967296 s, sized) refl
 
 -- the entries of a list of regions
 least_most : (p : ℕ → Bool) (n : ℕ) → least p n ≤ n

@@ -1,7 +1,7 @@
 -- The layout of the shared area: its fields one after another, each with its bytes, its range, and what an area has there.
 use Rattle.std.specs.Prelude.{ℕ, zero, suc, ◌+◌, ◌^◌, List, [], ◌∷◌, ◌++◌, flat_map, get_or, Bool, true, ◌==◌, ◌&&◌, nat_le, if◌then◌else◌}
 use Rattle.dri_base.specs.declared.texture.TexRegion.{TexRegion}
-use Rattle.dri_model.specs.Counting.{any_from}
+use Rattle.dri_base.specs.Ranges.{is_region_size}
 use Rattle.dri_sarea.specs.declared.drawable.Drawable.{Drawable}
 use Rattle.dri_sarea.specs.declared.layout.Field.{Field}
 use Rattle.dri_sarea.specs.declared.layout.Range.{Range}
@@ -19,7 +19,7 @@ bytes_in Number = 4
 abbrev pub holds : Range → ℕ → Bool
 holds Any v = true
 holds (Within least most) v = nat_le least v && nat_le v most
-holds RegionSize v = any_from (λ k. v == 2 ^ k) 8 9
+holds RegionSize v = is_region_size v
 
 -- a field of one byte
 abbrev pub byte : Range → Field

@@ -65,14 +65,14 @@ pub const REST: usize = ENTRIES + ENTRY_COUNT * ENTRY_SIZE;
 pub const REST_SIZE: usize = LENGTH - REST;
 
 /// How many bytes a field has: one, or the four of a number.
-#[derive(Clone, Copy, Debug, PartialEq, Eq)]
+#[derive(Clone, Copy)]
 pub enum Width {
     Byte,
     Number,
 }
 
 /// The numbers that a field may hold: any, those from the first to the second, or the sizes of a region.
-#[derive(Clone, Copy, Debug, PartialEq, Eq)]
+#[derive(Clone, Copy)]
 pub enum Range {
     Any,
     Within(u32, u32),
@@ -80,7 +80,7 @@ pub enum Range {
 }
 
 /// A field: its bytes and its range.
-#[derive(Clone, Copy, Debug, PartialEq, Eq)]
+#[derive(Clone, Copy)]
 pub struct Field {
     pub width: Width,
     pub range: Range,
@@ -98,18 +98,6 @@ impl Width {
     }
 }
 
-// Whether a number is a power of two, from 256 to 65,536.
-fn is_region_size(value: u32) -> bool
-    ensures { result ≡ holds RegionSize value }
-{
-    for k in 0..9 {
-        if value == 2u32.pow(8 + k) {
-            return true;
-        }
-    }
-    false
-}
-
 impl Range {
     /// Whether the number is in the range.
     pub fn holds(self, value: u32) -> bool
@@ -118,7 +106,7 @@ impl Range {
         match self {
             Range::Any => true,
             Range::Within(least, most) => least <= value && value <= most,
-            Range::RegionSize => is_region_size(value),
+            Range::RegionSize => dri_base::is_region_size(value),
         }
     }
 }

@@ -25,7 +25,7 @@ use std::alloc::Global;
 use std::marker::Model;
 
 /// A shared area. Contracts see its numbers, 256 drawables and 65 entries of the list of regions, all in their ranges.
-#[derive(Debug, Drop)]
+#[derive(Drop)]
 pub struct Sarea {
     word: u32,
     drawables: Vec<Drawable>,

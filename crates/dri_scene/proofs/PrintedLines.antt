@@ -49,7 +49,7 @@ use Rattle.dri_scene.specs.declared.form.Form.TheVariants as forms
 use Rattle.dri_scene.specs.declared.line.Line.{Line}
 use Rattle.dri_scene.specs.declared.line.Line.TheVariants as lines
 use Rattle.dri_scene.specs.Forms.{number_in, is_image, title_of, screen_of, heap_of, mapped_of, window_of, client_of, format_of, texture_of, shade_of, depth_func_of, switch_of, blend_of, tex_mode_of, wrap_of, plain_of, bind_of, corners_of, scissor_of, setting_of, set_of, clear_of, corner_at, triangle_of, plain_change_of, move_of, resize_of, item_in, item_of, change_of, command_of, block_of, head_of, form_of}
-use Rattle.dri_scene.specs.Lines.{screen_in, is_region_size, heap_in, window_in, client_in, texture_in, scissor_in, setting_in, corner_in, triangle_in, command_in, move_in, resize_in, change_in, line_in}
+use Rattle.dri_scene.specs.Lines.{screen_in, heap_in, window_in, client_in, texture_in, scissor_in, setting_in, corner_in, triangle_in, command_in, move_in, resize_in, change_in, line_in}
 use Rattle.dri_scene.specs.Readings.{window_changed}
 use Rattle.dri_scene.specs.Shapes.{IsChangeRanged}
 use Rattle.dri_scene.specs.Stored.{IsColour, IsColourAlpha, IsCorner, IsStoredCommand, IsStoredTexture}
@@ -137,54 +137,14 @@ window_read w range colour = record {
   ranged = rw (kept 1 64 w.number range.numbered.0 range.numbered.1, place_kept w.x range.left, place_kept w.y range.top, kept 1 1024 w.width range.wide.0 range.wide.1, kept 1 1024 w.height range.high.0 range.high.1, kept 0 32 w.owner (omega arith) range.owned) refl;
 }
 
--- the sizes of regions
-size_is : (j : ℕ) → j < 9 → is_region_size (2 ^ (j + 8)) ≡ true
-size_is zero below = refl
-size_is (suc zero) below = refl
-size_is (suc (suc zero)) below = refl
-size_is (suc (suc (suc zero))) below = refl
-size_is (suc (suc (suc (suc zero)))) below = refl
-size_is (suc (suc (suc (suc (suc zero))))) below = refl
-size_is (suc (suc (suc (suc (suc (suc zero)))))) below = refl
-size_is (suc (suc (suc (suc (suc (suc (suc zero))))))) below = refl
-size_is (suc (suc (suc (suc (suc (suc (suc (suc zero)))))))) below = refl
-size_is (suc (suc (suc (suc (suc (suc (suc (suc (suc j))))))))) below = absurd (omega arith)
-
-size_bounds : (j : ℕ) → j < 9 → (256 ≤ 2 ^ (j + 8)) × (2 ^ (j + 8) ≤ 65536)
-size_bounds zero below = (omega arith, omega arith)
-size_bounds (suc zero) below = (omega arith, omega arith)
-size_bounds (suc (suc zero)) below = (omega arith, omega arith)
-size_bounds (suc (suc (suc zero))) below = (omega arith, omega arith)
-size_bounds (suc (suc (suc (suc zero)))) below = (omega arith, omega arith)
-size_bounds (suc (suc (suc (suc (suc zero))))) below = (omega arith, omega arith)
-size_bounds (suc (suc (suc (suc (suc (suc zero)))))) below = (omega arith, omega arith)
-size_bounds (suc (suc (suc (suc (suc (suc (suc zero))))))) below = (omega arith, omega arith)
-size_bounds (suc (suc (suc (suc (suc (suc (suc (suc zero)))))))) below = (omega arith, omega arith)
-size_bounds (suc (suc (suc (suc (suc (suc (suc (suc (suc j))))))))) below = absurd (omega arith)
-
--- a region's size
-pub record IsSize (n : ℕ) : Type 0 where
-  pub test : is_region_size n ≡ true
-  pub above : 256 ≤ n
-  pub below : n ≤ 65536
-
-pub size_of : (n : ℕ) → IsRegionSize n → IsSize n
-size_of n sized =
-    let k = sized.0 in
-    let back : (k - 8) + 8 ≡ k = omega (arith, sized.1.0) in
-    let less : k - 8 < 9 = omega (arith, sized.1.0, sized.1.1) in
-    let is : 2 ^ ((k - 8) + 8) ≡ n = ap (λ j. 2 ^ j) back ∙ sym sized.2 in
-    let bounds = size_bounds (k - 8) less in
-    subst IsSize is (record { test = size_is (k - 8) less; above = bounds.0; below = bounds.1 })
-
 -- the heap
 pub heap_read : (n size : ℕ) → IsWithin 1 64 n → IsRegionSize size → IsRead (codes "heap" ∷ decimal n ∷ decimal size ∷ []) (forms.Heap (pos n) (pos size)) (lines.Heap n size)
 unfolding form_of head_of heap_of line_in heap_in
 heap_read n size few sized =
-    let is = size_of size sized in
+    let is = region_size_within size sized in
     record {
-      is = rw (few_there 64 n (decimal size ∷ []) (omega arith) few.1, few_there 65536 size [] (omega arith) is.below) refl;
-      ranged = rw (kept 1 64 n few.0 few.1, kept 256 65536 size is.above is.below, is.test) refl;
+      is = rw (few_there 64 n (decimal size ∷ []) (omega arith) few.1, few_there 65536 size [] (omega arith) is.1) refl;
+      ranged = rw (kept 1 64 n few.0 few.1, kept 256 65536 size is.0 is.1, sized) refl;
     }
 
 -- a client's head

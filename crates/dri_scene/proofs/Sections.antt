@@ -51,7 +51,8 @@ use Rattle.dri_scene.proofs.Numbers.{found_among, is_found, not_found}
 use Rattle.dri_scene.proofs.Splitting.{is_word}
 use Rattle.dri_scene.proofs.Written.{first_above}
 use Rattle.dri_scene.proofs.PrintedWords.{decimal_word, signed_word, colour_is_word, colour_alpha_is_word, image_is_word, image_back, image_size}
-use Rattle.dri_scene.proofs.PrintedLines.{size_of, IsWritable, IsWritableCommand, written_command, command_read, client_read, end_read, change_read, item_read, server_read, turns_read, IsNamed, title_read, screen_read, heap_read, window_read, texture_read}
+use Rattle.dri_base.proofs.RegionSizes.{region_size_within}
+use Rattle.dri_scene.proofs.PrintedLines.{IsWritable, IsWritableCommand, written_command, command_read, client_read, end_read, change_read, item_read, server_read, turns_read, IsNamed, title_read, screen_read, heap_read, window_read, texture_read}
 use Rattle.dri_scene.proofs.ReadBack.{IsPlain, Leads_to, leads_on, spelled, stepped}
 
 -- a number is a word
@@ -72,7 +73,7 @@ head_leads s range root =
     let titled : Reading = record opening { place = places.Screen } in
     let sized : Reading = record (with_screen titled s.width s.height s.root) { place = places.Heap } in
     let screen : IsPlain (screen_words s) = record { printed = rw (few 1024 s.width (omega arith) card.wide.1, few 1024 s.height (omega arith) card.high.1, colour_is_word s.root) refl; kept = refl } in
-    let heap : IsPlain (codes "heap" ∷ decimal s.regions ∷ decimal s.region_size ∷ []) = record { printed = rw (few 64 s.regions (omega arith) card.regions.1, few 65536 s.region_size (omega arith) (size_of s.region_size card.sized).below) refl; kept = refl } in (
+    let heap : IsPlain (codes "heap" ∷ decimal s.regions ∷ decimal s.region_size ∷ []) = record { printed = rw (few 64 s.regions (omega arith) card.regions.1, few 65536 s.region_size (omega arith) (region_size_within s.region_size card.sized).1) refl; kept = refl } in (
       titled,
       record { printed = refl; kept = refl },
       stepped opening _ forms.Title lines.Title places.Screen opening title_read refl refl,

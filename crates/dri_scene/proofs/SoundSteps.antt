@@ -20,7 +20,6 @@ use Rattle.dri_base.specs.declared.texture.TexShape.{TexShape}
 use Rattle.dri_base.specs.declared.texture.Texture.{Texture}
 use Rattle.dri_base.specs.Ranges.{InRange, IsWithin, IsSide, IsRegionSize, CardInRange, WindowInRange, TextureInRange, CommandInRange, SettingInRange, CommandsInRange, DiesLast, ClientInRange, ClientsInRange, ChangeInRange, ChangesInRange, ItemInRange, TurnsInRange, heap_bytes, client_numbers, command_count, owner_of, window_numbers, texture_numbers, victim, victims}
 use Rattle.dri_base.proofs.NumberMarks.{apart_more}
-use Rattle.dri_base.proofs.RegionSizes.{table, table_is_sized}
 use Rattle.dri_scene.specs.declared.form.CommandForm.{CommandForm}
 use Rattle.dri_scene.specs.declared.form.CommandForm.TheVariants as commands
 use Rattle.dri_scene.specs.declared.form.Form.{Form}
@@ -35,7 +34,7 @@ use Rattle.std.proofs.Math.Nat.{mul-div_cancel_left}
 use Rattle.dri_scene.specs.declared.place.Place.{Place}
 use Rattle.dri_scene.specs.declared.place.Place.TheVariants as places
 use Rattle.dri_scene.specs.declared.reading.Reading.{Reading}
-use Rattle.dri_scene.specs.Lines.{is_region_size}
+use Rattle.dri_base.specs.Ranges.{is_region_size}
 use Rattle.dri_scene.specs.Places.{place_after, place_behind_clients, place_in_script, is_in_client, is_end}
 use Rattle.dri_scene.specs.Readings.{with_window, has_window, with_client, owns, is_owner, with_texture, image_bytes, with_command, names_textures, with_change, window_changed, with_item, names_client, kills_again, with_end, with_screen, with_heap, no_script, opening, taken}
 use Rattle.dri_scene.specs.Shapes.{IsLineOf, IsCommandOf, IsSettingRanged, IsChangeRanged, IsTextureRanged}
@@ -476,28 +475,11 @@ screened r w h root early before none wide high = record {
   block = none;
 }
 
--- the tests of a size, one by one
-tests : (a b c d e f g h i : Bool) → (a || b || c || d || e || f || g || h || i) ≡ true → (a || (b || (c || (d || (e || (f || (g || (h || (i || false))))))))) ≡ true
-tests true b c d e f g h i is = refl
-tests false true c d e f g h i is = refl
-tests false false true d e f g h i is = refl
-tests false false false true e f g h i is = refl
-tests false false false false true f g h i is = refl
-tests false false false false false true g h i is = refl
-tests false false false false false false true h i is = refl
-tests false false false false false false false true i is = refl
-tests false false false false false false false false true is = refl
-tests false false false false false false false false false is = is
-
--- a region's size is a power of two
-sized : (n : ℕ) → is_region_size n ≡ true → IsRegionSize n
-sized n is = table_is_sized n (is_among table n (tests (n == 256) (n == 512) (n == 1024) (n == 2048) (n == 4096) (n == 8192) (n == 16384) (n == 32768) (n == 65536) is))
-
 -- the heap's numbers
 heaped : (r : Reading) (n z : ℕ) → IsEarly r.scene → IsSoFar r → r.script.commands ≡ [] → IsSide r.scene.width → IsSide r.scene.height → IsWithin 1 64 n → is_region_size z ≡ true → IsSound (record (with_heap r n z) { place = places.Windows })
 heaped r n z early before none wide high count size = record {
   so_far = record { windows = before.windows; clients = subst (ClientsInRange r.scene.windows (n * z)) (sym early.clients) (no_clients r.scene.windows (n * z)); most = before.most; counted = before.counted; few = before.few; changes = before.changes; turns = before.turns };
-  head = (record { clients = early.clients; changes = early.changes; turns = early.turns }, record { wide = wide; high = high; regions = count; sized = sized z size });
+  head = (record { clients = early.clients; changes = early.changes; turns = early.turns }, record { wide = wide; high = high; regions = count; sized = size });
   block = none;
 }
 

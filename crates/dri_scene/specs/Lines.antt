@@ -12,6 +12,7 @@ use Rattle.dri_base.specs.declared.shape.ClipRect.{ClipRect}
 use Rattle.dri_base.specs.declared.shape.Vertex.{Vertex}
 use Rattle.dri_base.specs.declared.state.Setting.{Setting}
 use Rattle.dri_base.specs.declared.state.Setting.TheVariants as Setting_is
+use Rattle.dri_base.specs.Ranges.{is_region_size}
 use Rattle.dri_base.specs.Scenes.{texel_bytes}
 use Rattle.dri_scene.specs.declared.form.WindowForm.{WindowForm}
 use Rattle.dri_scene.specs.declared.form.TextureForm.{TextureForm}
@@ -38,10 +39,6 @@ screen_in w h root = do
   width ← within 1 1024 w
   height ← within 1 1024 h
   Some (lines.Screen width height root)
-
--- a power of two from 256 to 65,536
-abbrev pub is_region_size : ℕ → Bool
-is_region_size n = n == 256 || n == 512 || n == 1024 || n == 2048 || n == 4096 || n == 8192 || n == 16384 || n == 32768 || n == 65536
 
 -- heap: 1 to 64 regions of a size
 unfoldable pub heap_in : ℤ → ℤ → Option Line

@@ -15,7 +15,7 @@ use Rattle.dri_scene.specs.declared.form.Form.{Form}
 use Rattle.dri_scene.specs.declared.form.Form.TheVariants as forms
 use Rattle.dri_scene.specs.declared.line.Line.{Line}
 use Rattle.dri_scene.specs.declared.line.Line.TheVariants as lines
-use Rattle.dri_scene.specs.Lines.{is_region_size}
+use Rattle.dri_base.specs.Ranges.{is_region_size}
 
 -- a scissor is in range
 abbrev pub IsSettingRanged : Setting → Type 0

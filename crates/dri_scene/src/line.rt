@@ -3,7 +3,7 @@
 ghost use Rattle.std.specs.Prelude.{◌≡◌, ◌≤◌, ◌*◌, IfSome, length};
 ghost use Rattle.dri_base.specs.Scenes.{texel_bytes};
 ghost use Rattle.dri_words.specs.Ranges.{within};
-ghost use Rattle.dri_scene.specs.Lines.{screen_in, is_region_size, heap_in, window_in, client_in, texture_in, scissor_in, setting_in, corner_in, triangle_in, command_in, move_in, resize_in, change_in, item_in, line_in};
+ghost use Rattle.dri_scene.specs.Lines.{screen_in, heap_in, window_in, client_in, texture_in, scissor_in, setting_in, corner_in, triangle_in, command_in, move_in, resize_in, change_in, item_in, line_in};
 ghost use Rattle.dri_base.specs.Ranges.{ScissorInRange, VertexInRange};
 ghost use Rattle.dri_scene.specs.Shapes.{IsSettingRanged, IsCommandOf, IsChangeRanged, IsLineOf};
 ghost use Rattle.dri_scene.specs.declared.form.CommandForm.TheVariants as commands;
@@ -13,9 +13,7 @@ use crate::form::{
     ChangeForm, CommandForm, CornerForm, Digits, Form, ItemForm, ScissorForm, SettingForm,
     TextureForm, WindowForm,
 };
-use dri_base::{
-    Change, ClipRect, Command, Item, Rgb, Setting, TexFormat, TexShape, Triangle, Vertex, Window,
-};
+use dri_base::{Change, ClipRect, Command, Item, Rgb, Setting, TexFormat, TexShape, Triangle, Vertex, Window, is_region_size};
 use dri_words::{signed_within, within};
 
 /// A line of a scene.
@@ -63,16 +61,6 @@ fn screen_in<'a>(width: i64, height: i64, root: Rgb) -> Option<Line<'a>>
         height,
         root,
     })
-}
-
-/// Whether a size is a power of two from 256 to 65,536.
-fn is_region_size(size: u32) -> bool
-    ensures { result ≡ is_region_size size }
-{
-    matches!(
-        size,
-        256 | 512 | 1024 | 2048 | 4096 | 8192 | 16384 | 32768 | 65536
-    )
 }
 
 /// `heap`: 1 to 64 regions of a size.

@@ -13,7 +13,7 @@ use dri_words::{Parts, Reason};
 use std::alloc::Global;
 
 /// How much of a text its scene takes: the bytes and the lines up to the `done` line and with it.
-#[derive(Clone, Copy, Debug, PartialEq, Eq)]
+#[derive(Clone, Copy)]
 pub struct Part {
     pub bytes: u32,
     pub lines: u32,

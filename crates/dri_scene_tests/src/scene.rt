@@ -38,13 +38,7 @@ fn read_and_printed(rt: HostRuntime) -> Result<(), Fail> {
         b"dri 1\nscreen 1 1 000040\n\nheap 1 256\ndone\nmore\n",
     )?;
     assert_eq!(rt; first.width, 1);
-    assert_eq!(rt;
-        part,
-        Part {
-            bytes: 41,
-            lines: 5
-        }
-    );
+    assert_eq!(rt; (part.bytes, part.lines), (41, 5));
     Ok(())
 }
 

@@ -6,14 +6,15 @@ use Rattle.dri_base.specs.declared.scene.Window.{Window}
 use Rattle.dri_card.specs.Contents.{Contents, HaveSides, KeepSides, Shows}
 use Rattle.dri_card.specs.Drawing.{OnlyShown, painted as painted_in}
 use Rattle.dri_clips.specs.Boards.{IsRestacked, Screen, stamps_of}
-use Rattle.dri_clips.specs.Paints.{AreApart, ArePaints, filled, has_pixel, paint_at}
+use Rattle.dri_base.specs.Planes.{in_rect}
+use Rattle.dri_clips.specs.Paints.{AreApart, ArePaints, filled, paint_at}
 use Rattle.dri_clips.specs.declared.change.ChangeFault.{ChangeFault}
 use Rattle.dri_clips.specs.declared.change.ChangeFault.TheVariants.{NoWindow, OutOfRange, AlreadyMapped, NotMapped, OutOfMemory}
 use Rattle.dri_clips.specs.declared.touched.Paint.{Paint}
 use Rattle.dri_clips.specs.declared.touched.Touched.{Touched}
 use Rattle.dri_model.specs.Counting.{all_below, how_many}
 use Rattle.dri_model.specs.Stacks.{Refusal, clips, ground_colour, is_touched, origin, painted, restamped, same_bool, same_origin, same_set, same_top, top, unless_refused}
-use Rattle.dri_plane.proofs.Planes.{plane_same}
+use Rattle.dri_base.proofs.PlaneLists.{plane_same}
 use Rattle.dri_shared.specs.Holdings.{IsRestackedOn}
 use Rattle.dri_shared.proofs.Drawn.{shows_same}
 
@@ -22,7 +23,7 @@ pub filled_more : (ps : List Paint) (i : ℕ) (d : Paint) (front : ℕ → ℕ �
     painted_in (slice_index_or ps i d).rect (slice_index_or ps i d).colour (filled (take i ps) front) x y ≡ filled (take (suc i) ps) front x y
 filled_more [] i d front x y lt = absurd (omega arith)
 filled_more (p ∷ ps) zero d front x y lt = refl
-filled_more (p ∷ ps) (suc i) d front x y lt = filled_more ps i d (λ a b. if has_pixel p.rect a b then p.colour else front a b) x y (omega arith)
+filled_more (p ∷ ps) (suc i) d front x y lt = filled_more ps i d (λ a b. if in_rect p.rect a b then p.colour else front a b) x y (omega arith)
 
 pub filled_next : (ps : List Paint) (i : ℕ) (d : Paint) (front : ℕ → ℕ → Rgb) → i < length ps →
     (x y : ℕ) → painted_in (slice_index_or ps i d).rect (slice_index_or ps i d).colour (filled (take i ps) front) x y ≡ filled (take (i + 1) ps) front x y
@@ -32,7 +33,7 @@ filled_next ps i d front lt x y = subst (λ n. painted_in (slice_index_or ps i d
     next n = omega arith
 
 -- where no paint has the pixel it isn't painted
-unpainted : (ps : List Paint) (x y : ℕ) → ((k : ℕ) (d : Paint) → k < length ps → has_pixel (slice_index_or ps k d).rect x y ≡ false) → paint_at ps x y ≡ None
+unpainted : (ps : List Paint) (x y : ℕ) → ((k : ℕ) (d : Paint) → k < length ps → in_rect (slice_index_or ps k d).rect x y ≡ false) → paint_at ps x y ≡ None
 unpainted [] x y none = refl
 unpainted (p ∷ ps) x y none = rw (none 0 p (omega arith)) (unpainted ps x y (λ k d lt. none (suc k) d (omega arith)))
 
@@ -43,16 +44,16 @@ or_else (Some p) c = p
 
 filled_at : (ps : List Paint) (front : ℕ → ℕ → Rgb) (x y : ℕ) → AllPairs AreApart ps → filled ps front x y ≡ or_else (paint_at ps x y) (front x y)
 filled_at [] front x y apart = refl
-filled_at (p ∷ ps) front x y apart = filled_at ps (λ a b. if has_pixel p.rect a b then p.colour else front a b) x y (λ i j d lt below. apart (suc i) (suc j) d (omega arith) (omega arith)) ∙ here (has_pixel p.rect x y) refl
+filled_at (p ∷ ps) front x y apart = filled_at ps (λ a b. if in_rect p.rect a b then p.colour else front a b) x y (λ i j d lt below. apart (suc i) (suc j) d (omega arith) (omega arith)) ∙ here (in_rect p.rect x y) refl
   where
-    others : has_pixel p.rect x y ≡ true → (k : ℕ) (d : Paint) → k < length ps → has_pixel (slice_index_or ps k d).rect x y ≡ false
-    others h k d lt = let both = apart 0 (suc k) d (omega arith) (omega arith) x y in second (has_pixel p.rect x y) (has_pixel (slice_index_or ps k d).rect x y) h both
+    others : in_rect p.rect x y ≡ true → (k : ℕ) (d : Paint) → k < length ps → in_rect (slice_index_or ps k d).rect x y ≡ false
+    others h k d lt = let both = apart 0 (suc k) d (omega arith) (omega arith) x y in second (in_rect p.rect x y) (in_rect (slice_index_or ps k d).rect x y) h both
       where
         second : (a b : Bool) → a ≡ true → (a && b) ≡ false → b ≡ false
         second true b e h = h
         second false b e h = grind (arith, nat_tests)
 
-    here : (b : Bool) → has_pixel p.rect x y ≡ b → or_else (paint_at ps x y) (if has_pixel p.rect x y then p.colour else front x y) ≡ or_else (if has_pixel p.rect x y then Some p.colour else paint_at ps x y) (front x y)
+    here : (b : Bool) → in_rect p.rect x y ≡ b → or_else (paint_at ps x y) (if in_rect p.rect x y then p.colour else front x y) ≡ or_else (if in_rect p.rect x y then Some p.colour else paint_at ps x y) (front x y)
     here true h = rw (h, unpainted ps x y (others h)) refl
     here false h = rw h refl
 

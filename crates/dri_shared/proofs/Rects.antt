@@ -5,7 +5,8 @@ use Rattle.std.proofs.lemmas.Bool.Decides.{nat_tests}
 use Rattle.std.proofs.lemmas.Int.{ints}
 use Rattle.dri_base.specs.declared.shape.ClipRect.{ClipRect}
 use Rattle.dri_base.specs.declared.shape.Rect.{Rect}
-use Rattle.dri_plane.specs.Grids.{in_rect, IsInside}
+use Rattle.dri_base.specs.Planes.{in_rect}
+use Rattle.dri_plane.specs.Grids.{IsInside}
 use Rattle.dri_rect.specs.Pixels.{inside, has_pixel, IsProper, IsApart}
 use Rattle.dri_shared.specs.Copies.{has_place}
 use Rattle.dri_shared.specs.Drawing.{IsSameRect, IsShown}

@@ -7,7 +7,7 @@ ghost use Rattle.dri_texheap.specs.RegionStates.{heap_from};
 ghost use Rattle.dri_texheap.specs.Ring.{foremost, goes, follows, Nearest};
 
 /// The two ways along the list: from the most to the least recently used region, and back.
-#[derive(Clone, Copy, Debug, PartialEq, Eq)]
+#[derive(Clone, Copy)]
 pub enum Direction {
     Onward,
     Backward,

@@ -13,7 +13,7 @@ use std::marker::Model;
 
 /// The runs of a client's textures. Contracts see the list of them, from texture 1 on: `placed_of` says where a texture
 /// is placed.
-#[derive(Debug, Drop)]
+#[derive(Drop)]
 pub struct Placed {
     runs: Vec<Option<Run>>,
 }

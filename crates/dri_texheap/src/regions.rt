@@ -16,7 +16,7 @@ use std::marker::Model;
 
 /// The regions of texture memory. Contracts see how many they are, the global age, and by number which are in use and
 /// each one's age: `heap_of` makes a heap of these.
-#[derive(Debug, Drop)]
+#[derive(Drop)]
 pub struct Regions {
     count: u32,
     age: u32,

@@ -3,7 +3,7 @@
 use std::marker::Model;
 
 /// Neighbouring regions: the first one's number, and how many they are. Contracts see the run of the definitions.
-#[derive(Clone, Copy, Debug, PartialEq, Eq)]
+#[derive(Clone, Copy, PartialEq, Eq)]
 pub struct Run {
     pub first: u32,
     pub count: u32,

@@ -3,7 +3,7 @@
 use dri_base::Event;
 
 /// What a turn or a kill did: it made one event, or was passed over.
-#[derive(Clone, Copy, Debug, PartialEq, Eq)]
+#[derive(Clone, Copy)]
 pub enum Turned {
     Did(Event),
     Passed,

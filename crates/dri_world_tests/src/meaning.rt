@@ -189,7 +189,7 @@ fn alone_in_a_scissor(rt: HostRuntime) -> Result<(), Fail> {
         (2, 5, 0, None),
         (3, 5, 0, None),
     ] {
-        assert_eq!(rt; solo_pixel(script, frame, x, y), colour);
+        assert!(rt; solo_pixel(script, frame, x, y) == colour);
     }
     assert_eq!(rt;
         solo_picture(rt.alloc(), script, 2, 10, 1).err(),
@@ -206,10 +206,7 @@ fn alone_with_two_blends(rt: HostRuntime) -> Result<(), Fail> {
     let script = script(&scene);
     let picture = solo_picture(rt.alloc(), script, 1, 3, 1)?;
     assert_eq!(rt; (picture.width, picture.height), (3, 1));
-    assert_eq!(rt;
-        picture.pixels.as_slice(),
-        [LIGHT_GREY, LIGHT_GREY, LIGHT_GREY].as_slice()
-    );
-    assert_eq!(rt; solo_pixel(script, 1, 20, 0), Some(BLACK));
+    assert!(rt; picture.pixels.as_slice() == [LIGHT_GREY, LIGHT_GREY, LIGHT_GREY].as_slice());
+    assert!(rt; solo_pixel(script, 1, 20, 0) == Some(BLACK));
     Ok(())
 }

@@ -2,7 +2,7 @@ use Rattle.std.proofs.Common.{◌<◌, ◌%◌, ◌∙◌, sym, inl, inr, length
 use Rattle.dri_cmdbuf.specs.Decoding.{is_good, triangles_of, IsWhole}
 use Rattle.dri_cmdbuf.proofs.Grammar.{whole_inside, whole_spells, buffer_good, buffer_thirteens}
 use Rattle.std.proofs.lemmas.Bool.{both_ways}
-use Rattle.dri_cmdbuf.proofs.OneReading.{buffer_one}
+use Rattle.dri_model.proofs.Buffers.{triangles_same}
 use Rattle.dri_cmdbuf.proofs.Places.{wrong_word, cut_short}
 use Rattle.dri_cmdbuf.proofs.decoded.decode.Goals as goal
 
@@ -28,4 +28,4 @@ returns-then-words-ne0-clause-read c = λ ts all spells. absurd (c.if-words-ne0.
 pub returns-clause-read : goal.returns-clause-read
 returns-clause-read c = λ ts all spells.
     let whole : IsWhole c.args.words.now = record { thirteens = c.if-words-ne0.false; good = λ i within. c.loop-at.invariant i (omega arith); small = λ i _. (c.type_inv.words i).fits } in
-    ap Ok (buffer_one (triangles_of c.args.words.now) ts (whole_inside c.args.words.now whole) all (sym (whole_spells c.args.words.now whole) ∙ spells))
+    ap Ok (triangles_same (triangles_of c.args.words.now) ts (whole_inside c.args.words.now whole) all (sym (whole_spells c.args.words.now whole) ∙ spells))

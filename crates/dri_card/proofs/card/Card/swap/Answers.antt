@@ -4,7 +4,7 @@ use Rattle.dri_card.specs.Contents.{Holds, Shows}
 use Rattle.dri_card.proofs.CardPlanes.{shows_change}
 use Rattle.dri_card.proofs.card.Card.swap.Goals as goal
 use Rattle.std.proofs.Common.{if◌then◌else◌}
-use Rattle.dri_plane.specs.Grids.{in_rect}
+use Rattle.dri_base.specs.Planes.{in_rect}
 
 pub returns-clause-ok : goal.returns-clause-ok
 returns-clause-ok g c =

@@ -1,6 +1,6 @@
 -- One colour, or those of the corners.
 use Rattle.std.proofs.Common.{sym, subst}
-use Rattle.dri_plane.specs.Grids.{in_rect}
+use Rattle.dri_base.specs.Planes.{in_rect}
 use Rattle.dri_card.specs.Pairs.{PairsBecome, drawn_at, own_colour, pair_by, turned_at}
 use Rattle.dri_card.proofs.drawing.Drawing.draw.Goals as goal
 

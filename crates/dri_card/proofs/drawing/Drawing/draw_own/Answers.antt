@@ -1,6 +1,6 @@
 -- The texel in place of the colour, or multiplied with it.
 use Rattle.std.proofs.Common.{sym, subst}
-use Rattle.dri_plane.specs.Grids.{in_rect}
+use Rattle.dri_base.specs.Planes.{in_rect}
 use Rattle.dri_card.specs.Pairs.{PairsBecome, drawn_at, pair_by, turned_at}
 use Rattle.dri_card.proofs.drawing.Drawing.draw_own.Goals as goal
 

@@ -1,5 +1,5 @@
 -- Both planes are filled.
-use Rattle.dri_plane.specs.Grids.{in_rect}
+use Rattle.dri_base.specs.Planes.{in_rect}
 use Rattle.dri_card.proofs.PairPlanes.{pairs_written}
 use Rattle.dri_card.proofs.target.Target.clear.Goals as goal
 
