@@ -77,7 +77,10 @@ fn wrong_words(rt: HostRuntime) {
     ];
     for (words, at, word) in rows {
         let mut registers = opening();
-        assert!(rt; registers.apply(words) == Err(BadWord { at, word }), "at {at}");
+        assert!(rt;
+            registers.apply(words) == Err(BadWord { at, word }),
+            "at {at}"
+        );
         assert!(rt; registers.scissor == opening().scissor);
     }
 }

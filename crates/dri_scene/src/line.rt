@@ -13,7 +13,10 @@ use crate::form::{
     ChangeForm, CommandForm, CornerForm, Digits, Form, ItemForm, ScissorForm, SettingForm,
     TextureForm, WindowForm,
 };
-use dri_base::{Change, ClipRect, Command, Item, Rgb, Setting, TexFormat, TexShape, Triangle, Vertex, Window, is_region_size};
+use dri_base::{
+    Change, ClipRect, Command, Item, Rgb, Setting, TexFormat, TexShape, Triangle, Vertex, Window,
+    is_region_size,
+};
 use dri_words::{signed_within, within};
 
 /// A line of a scene.
