@@ -97,28 +97,28 @@ rules_same s w c inv own clean = λ i. record {
 }
   where
     shade : w.registers.shade ≡ (w.client c).state.shade
-    shade = inv.clean_shade c own (grind (arith, nat_tests))
+    shade = (inv.clean c own).shade (grind (arith, nat_tests))
 
     depth_func : w.registers.depth_func ≡ (w.client c).state.depth_func
-    depth_func = inv.clean_depth c own (grind (arith, nat_tests))
+    depth_func = (inv.clean c own).depth_func (grind (arith, nat_tests))
 
     depth_write : w.registers.depth_write ≡ (w.client c).state.depth_write
-    depth_write = inv.clean_write c own (grind (arith, nat_tests))
+    depth_write = (inv.clean c own).depth_write (grind (arith, nat_tests))
 
     blend : w.registers.blend ≡ (w.client c).state.blend
-    blend = inv.clean_blend c own (grind (arith, nat_tests))
+    blend = (inv.clean c own).blend (grind (arith, nat_tests))
 
     tex_mode : w.registers.tex_mode ≡ (w.client c).state.tex_mode
-    tex_mode = inv.clean_mode c own (grind (arith, nat_tests))
+    tex_mode = (inv.clean c own).mode (grind (arith, nat_tests))
 
     wrap : w.registers.wrap ≡ (w.client c).state.wrap
-    wrap = inv.clean_wrap c own (grind (arith, nat_tests))
+    wrap = (inv.clean c own).wrap (grind (arith, nat_tests))
 
     scissor : w.registers.scissor ≡ (w.client c).state.scissor
-    scissor = inv.clean_scissor c own (grind (arith, nat_tests))
+    scissor = (inv.clean c own).scissor (grind (arith, nat_tests))
 
 bound_same : (s : Scene) (w : World) (c : ℕ) → Invariant s w → w.owner ≡ c + 1 → is_empty (w.client c).dirty ≡ true → w.registers.bound ≡ bound_texture s c (w.client c)
-bound_same s w c inv own clean = inv.clean_bound c own (grind (arith, nat_tests))
+bound_same s w c inv own clean = (inv.clean c own).bound (grind (arith, nat_tests))
 
 -- a triangle by the card is the triangle by the client's own state and image
 card_same : (s : Scene) (w : World) (c i : ℕ) (t : Shape) (x y : ℤ) (under : Pixel) → IsWellFormed s → Sound s w → LegalEntry s w (Run c i) → can_draw (w.client c) ≡ true →

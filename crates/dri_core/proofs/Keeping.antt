@@ -1,17 +1,25 @@
 -- Entries of clients keep the central invariant.
-use Rattle.std.proofs.Common.{◌≡◌, ◌<◌, ◌≤◌, ℕ, true, arith, refl}
+use Rattle.std.proofs.Common.{◌≡◌, ◌<◌, ◌≤◌, ◌+◌, ℕ, Bool, true, false, not, arith, refl, ap}
+use Rattle.std.specs.Prelude.{◌==◌}
+use Rattle.std.proofs.lemmas.Bool.{true≢false}
 use Rattle.std.proofs.lemmas.Bool.Decides.{nat_tests}
 use Rattle.dri_base.specs.declared.journal.Entry.TheVariants.{Light, Kernel, Stale, Emit, Place, Leave, Info, Run}
 use Rattle.dri_base.specs.declared.scene.Scene.{Scene}
 use Rattle.dri_base.proofs.RangeLemmas.{IsWellFormed}
-use Rattle.dri_base.specs.Scenes.{window_of, commands_of, command_at}
+use Rattle.dri_base.specs.Scenes.{window_of, commands_of, command_at, textures_of}
 use Rattle.dri_model.specs.Heaps.{is_newer}
 use Rattle.dri_core.specs.Worlds.{World}
-use Rattle.dri_core.specs.Privates.{state_by}
+use Rattle.dri_base.specs.Texels.{texture_bound}
+use Rattle.dri_core.specs.Phases.{Ask, In}
+use Rattle.dri_core.specs.Privates.{bound_at, bound_texture, is_bound_lost, own_registers, run_of, state_by}
+use Rattle.dri_core.specs.Runs.{IsClean}
+use Rattle.dri_model.specs.Groups.{no_groups}
+use Rattle.dri_model.specs.Words.{loaded}
 use Rattle.dri_core.specs.EntryTable.{LegalEntry, after_entry}
-use Rattle.dri_core.specs.Effects.{run_by}
+use Rattle.dri_core.specs.Effects.{after_leave, placed_by, run_by, taken_in, told}
 use Rattle.dri_core.proofs.Parts.{put_keeps}
-use Rattle.dri_core.proofs.Invariant.{is_acting, Invariant, state_on, kept_shade, kept_blend, kept_mode, kept_wrap, kept_bound, kept_scissor, kept_depth, kept_run}
+use Rattle.dri_core.proofs.Clean.{changed_clean, emitted_clean, kept_run, more_dirty, owned_clean, put_clean}
+use Rattle.dri_core.proofs.Invariant.{is_acting, Invariant, state_on}
 
 pub light : (s : Scene) (w : World) (c : ℕ) → IsWellFormed s → Invariant s w → LegalEntry s w (Light c) → Invariant s (after_entry s w (Light c))
 light s w c good inv legal = record {
@@ -27,14 +35,7 @@ light s w c good inv legal = record {
   nobody = grind (arith, nat_tests);
   started = grind (arith, nat_tests);
   state = grind (arith, nat_tests);
-  clean_shade = grind (arith, nat_tests);
-  clean_depth = grind (arith, nat_tests);
-  clean_write = grind (arith, nat_tests);
-  clean_blend = grind (arith, nat_tests);
-  clean_mode = grind (arith, nat_tests);
-  clean_wrap = grind (arith, nat_tests);
-  clean_bound = grind (arith, nat_tests);
-  clean_scissor = grind (arith, nat_tests);
+  clean = put_clean s w c (record (w.client c) { phase = In }) inv.clean (inv.clean c);
 }
 
 pub kernel : (s : Scene) (w : World) (c found : ℕ) → IsWellFormed s → Invariant s w → LegalEntry s w (Kernel c found) → Invariant s (after_entry s w (Kernel c found))
@@ -51,15 +52,20 @@ kernel s w c found good inv legal = record {
   nobody = grind (arith, nat_tests);
   started = grind (arith, nat_tests);
   state = grind (arith, nat_tests);
-  clean_shade = grind (arith, nat_tests);
-  clean_depth = grind (arith, nat_tests);
-  clean_write = grind (arith, nat_tests);
-  clean_blend = grind (arith, nat_tests);
-  clean_mode = grind (arith, nat_tests);
-  clean_wrap = grind (arith, nat_tests);
-  clean_bound = λ d. grind (arith, nat_tests, inv.clean_bound d, kept_run (is_newer w.heap (w.client c).local) (w.client c).placed (w.client c).state.bound);
-  clean_scissor = grind (arith, nat_tests);
+  clean = owned_clean s w.client c (c + 1) (taken_in s w c) w.registers refl taken;
 }
+  where
+    lost : ℕ → Bool
+    lost = is_newer w.heap (w.client c).local
+
+    same : is_bound_lost (w.client c) lost ≡ false → bound_texture s c (taken_in s w c) ≡ bound_texture s c (w.client c)
+    same e = ap (bound_at s.region_size (texture_bound (textures_of s c) (w.client c).state.bound)) (kept_run lost (w.client c).placed (w.client c).state.bound e)
+
+    owned : not (w.owner == c + 1) ≡ false → w.owner ≡ c + 1
+    owned e = grind (arith, nat_tests)
+
+    taken : IsClean (taken_in s w c).dirty (own_registers s c (taken_in s w c)) w.registers
+    taken = more_dirty (w.client c).dirty (not (w.owner == c + 1)) (is_bound_lost (w.client c) lost) (own_registers s c (w.client c)) w.registers (bound_texture s c (taken_in s w c)) (λ e. inv.clean c (owned e)) same
 
 pub stale : (s : Scene) (w : World) (c : ℕ) → IsWellFormed s → Invariant s w → LegalEntry s w (Stale c) → Invariant s (after_entry s w (Stale c))
 stale s w c good inv legal = record {
@@ -75,14 +81,7 @@ stale s w c good inv legal = record {
   nobody = grind (arith, nat_tests);
   started = grind (arith, nat_tests);
   state = grind (arith, nat_tests);
-  clean_shade = grind (arith, nat_tests);
-  clean_depth = grind (arith, nat_tests);
-  clean_write = grind (arith, nat_tests);
-  clean_blend = grind (arith, nat_tests);
-  clean_mode = grind (arith, nat_tests);
-  clean_wrap = grind (arith, nat_tests);
-  clean_bound = grind (arith, nat_tests);
-  clean_scissor = grind (arith, nat_tests);
+  clean = put_clean s w c (record (w.client c) { phase = Ask }) inv.clean (inv.clean c);
 }
 
 pub emit : (s : Scene) (w : World) (c groups : ℕ) → IsWellFormed s → Invariant s w → LegalEntry s w (Emit c groups) → Invariant s (after_entry s w (Emit c groups))
@@ -99,15 +98,11 @@ emit s w c groups good inv legal = record {
   nobody = grind (arith, nat_tests);
   started = grind (arith, nat_tests);
   state = grind (arith, nat_tests);
-  clean_shade = grind (arith, nat_tests);
-  clean_depth = grind (arith, nat_tests);
-  clean_write = grind (arith, nat_tests);
-  clean_blend = grind (arith, nat_tests);
-  clean_mode = grind (arith, nat_tests);
-  clean_wrap = grind (arith, nat_tests);
-  clean_bound = grind (arith, nat_tests);
-  clean_scissor = grind (arith, nat_tests);
+  clean = owned_clean s w.client c w.owner (record (w.client c) { dirty = no_groups }) (loaded (w.client c).dirty (own_registers s c (w.client c)) w.registers) owns (emitted_clean (w.client c).dirty (own_registers s c (w.client c)) w.registers (inv.clean c owns));
 }
+  where
+    owns : w.owner ≡ c + 1
+    owns = inv.acting_owner c (rw legal.0.0 refl)
 
 pub place : (s : Scene) (w : World) (c t first count : ℕ) → IsWellFormed s → Invariant s w → LegalEntry s w (Place c t first count) → Invariant s (after_entry s w (Place c t first count))
 place s w c t first count good inv legal = record {
@@ -123,14 +118,7 @@ place s w c t first count good inv legal = record {
   nobody = grind (arith, nat_tests);
   started = grind (arith, nat_tests);
   state = grind (arith, nat_tests);
-  clean_shade = grind (arith, nat_tests);
-  clean_depth = grind (arith, nat_tests);
-  clean_write = grind (arith, nat_tests);
-  clean_blend = grind (arith, nat_tests);
-  clean_mode = grind (arith, nat_tests);
-  clean_wrap = grind (arith, nat_tests);
-  clean_bound = grind (arith, nat_tests);
-  clean_scissor = grind (arith, nat_tests);
+  clean = put_clean s w c (placed_by s w c t first count) inv.clean (λ own. more_dirty (w.client c).dirty false true (own_registers s c (w.client c)) w.registers (bound_texture s c (placed_by s w c t first count)) (λ e. inv.clean c own) (λ e. absurd (true≢false e)));
 }
 
 pub leave : (s : Scene) (w : World) (c : ℕ) → IsWellFormed s → Invariant s w → LegalEntry s w (Leave c) → Invariant s (after_entry s w (Leave c))
@@ -147,14 +135,7 @@ leave s w c good inv legal = record {
   nobody = grind (arith, nat_tests);
   started = grind (arith, nat_tests);
   state = grind (arith, nat_tests);
-  clean_shade = grind (arith, nat_tests);
-  clean_depth = grind (arith, nat_tests);
-  clean_write = grind (arith, nat_tests);
-  clean_blend = grind (arith, nat_tests);
-  clean_mode = grind (arith, nat_tests);
-  clean_wrap = grind (arith, nat_tests);
-  clean_bound = grind (arith, nat_tests);
-  clean_scissor = grind (arith, nat_tests);
+  clean = put_clean s w c (record (w.client c) { phase = after_leave s c (w.client c) }) inv.clean (inv.clean c);
 }
 
 pub info : (s : Scene) (w : World) (c : ℕ) → IsWellFormed s → Invariant s w → LegalEntry s w (Info c) → Invariant s (after_entry s w (Info c))
@@ -171,14 +152,7 @@ info s w c good inv legal = record {
   nobody = grind (arith, nat_tests);
   started = grind (arith, nat_tests);
   state = grind (arith, nat_tests);
-  clean_shade = grind (arith, nat_tests);
-  clean_depth = grind (arith, nat_tests);
-  clean_write = grind (arith, nat_tests);
-  clean_blend = grind (arith, nat_tests);
-  clean_mode = grind (arith, nat_tests);
-  clean_wrap = grind (arith, nat_tests);
-  clean_bound = grind (arith, nat_tests);
-  clean_scissor = grind (arith, nat_tests);
+  clean = put_clean s w c (told s w c) inv.clean (inv.clean c);
 }
 
 pub ran : (s : Scene) (w : World) (c i : ℕ) → IsWellFormed s → Invariant s w → LegalEntry s w (Run c i) → Invariant s (after_entry s w (Run c i))
@@ -195,12 +169,5 @@ ran s w c i good inv legal = record {
   nobody = grind (arith, nat_tests);
   started = λ d. put_keeps (λ k q. 0 < q.place) w.client c (run_by s w c i) d (omega arith) (inv.started d);
   state = λ d. grind (arith, nat_tests, inv.state d, state_on (commands_of s c) i (rw legal.1 (inv.started c)));
-  clean_shade = λ d. grind (arith, nat_tests, inv.clean_shade d, kept_shade (w.client c).state (state_by (command_at s c i) (w.client c).state) (w.client c).dirty);
-  clean_depth = λ d. grind (arith, nat_tests, inv.clean_depth d, kept_depth (w.client c).state (state_by (command_at s c i) (w.client c).state) (w.client c).dirty);
-  clean_write = λ d. grind (arith, nat_tests, inv.clean_write d, kept_depth (w.client c).state (state_by (command_at s c i) (w.client c).state) (w.client c).dirty);
-  clean_blend = λ d. grind (arith, nat_tests, inv.clean_blend d, kept_blend (w.client c).state (state_by (command_at s c i) (w.client c).state) (w.client c).dirty);
-  clean_mode = λ d. grind (arith, nat_tests, inv.clean_mode d, kept_mode (w.client c).state (state_by (command_at s c i) (w.client c).state) (w.client c).dirty);
-  clean_wrap = λ d. grind (arith, nat_tests, inv.clean_wrap d, kept_wrap (w.client c).state (state_by (command_at s c i) (w.client c).state) (w.client c).dirty);
-  clean_bound = λ d. grind (arith, nat_tests, inv.clean_bound d, kept_bound (w.client c).state (state_by (command_at s c i) (w.client c).state) (w.client c).dirty);
-  clean_scissor = λ d. grind (arith, nat_tests, inv.clean_scissor d, kept_scissor (w.client c).state (state_by (command_at s c i) (w.client c).state) (w.client c).dirty);
+  clean = put_clean s w c (run_by s w c i) inv.clean (λ own. changed_clean (w.client c).state (state_by (command_at s c i) (w.client c).state) (w.client c).dirty (λ b. bound_at s.region_size (texture_bound (textures_of s c) b) (run_of (w.client c).placed b)) w.registers (inv.clean c own));
 }

@@ -15,7 +15,7 @@ use Rattle.dri_core.specs.Worlds.{World, opening, clips_in}
 use Rattle.dri_core.specs.Privates.{Private}
 use Rattle.dri_core.specs.EntryTable.{LegalEntry, after_entry}
 use Rattle.dri_core.specs.Effects.{front_after, back_after}
-use Rattle.dri_core.specs.Runs.{after_entries, LegalEntries, after, HoldRun, Confined, SameOutside, LightIsCurrent, ActingIsCurrent, OwnerIsClean, IsCurrent, client_of}
+use Rattle.dri_core.specs.Runs.{after_entries, LegalEntries, after, HoldRun, Confined, SameOutside, LightIsCurrent, ActingIsCurrent, IsCurrent, client_of}
 use Rattle.dri_core.proofs.Invariant.{is_acting}
 use Rattle.dri_core.proofs.Sound.{Sound, sound_after}
 
@@ -67,18 +67,6 @@ acting_is_current s w sound c phase = record {
 
     stamp : (w.client c).stamp ≡ w.stamps (window_of s c)
     stamp = sound.main.acting_stamp c acts
-
-pub owner_is_clean : (s : Scene) (w : World) → Sound s w → OwnerIsClean s w
-owner_is_clean s w sound c own = record {
-  shade = sound.main.clean_shade c own;
-  depth_func = sound.main.clean_depth c own;
-  depth_write = sound.main.clean_write c own;
-  blend = sound.main.clean_blend c own;
-  mode = sound.main.clean_mode c own;
-  wrap = sound.main.clean_wrap c own;
-  bound = sound.main.clean_bound c own;
-  scissor = sound.main.clean_scissor c own;
-}
 
 -- a pixel outside the copy stays
 pub back_left : (w : World) (p : Private) (command : Option Command) (x y : ℕ) → p.copy x y ≡ false → back_after w p command x y ≡ w.back x y

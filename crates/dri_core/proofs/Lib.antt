@@ -1,4 +1,5 @@
 pub mod Parts
+pub mod Clean
 pub mod Invariant
 pub mod Keeping
 pub mod Restacking

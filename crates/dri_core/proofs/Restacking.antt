@@ -10,9 +10,10 @@ use Rattle.dri_base.specs.Scenes.{window_of}
 use Rattle.dri_model.specs.Stacks.{clips, origin, without_owner}
 use Rattle.dri_core.specs.Worlds.{World}
 use Rattle.dri_core.specs.EntryTable.{LegalEntry, after_entry}
-use Rattle.dri_core.specs.Phases.{is_holding}
+use Rattle.dri_core.specs.Phases.{Dead, is_holding}
 use Rattle.dri_core.specs.Restacks.{next_stack, touched_by, stamps_after, counter_after}
 use Rattle.dri_model.proofs.Touches.{clips_kept, origin_kept, how_many_at, stamp_bounded}
+use Rattle.dri_core.proofs.Clean.{put_clean}
 use Rattle.dri_core.proofs.Invariant.{Invariant, acting_holds}
 
 -- a stamp that is still the shared one after a change was it before, and the window wasn't touched
@@ -64,14 +65,7 @@ change s w i good inv legal = record {
   nobody = inv.nobody;
   started = inv.started;
   state = inv.state;
-  clean_shade = inv.clean_shade;
-  clean_depth = inv.clean_depth;
-  clean_write = inv.clean_write;
-  clean_blend = inv.clean_blend;
-  clean_mode = inv.clean_mode;
-  clean_wrap = inv.clean_wrap;
-  clean_bound = inv.clean_bound;
-  clean_scissor = inv.clean_scissor;
+  clean = inv.clean;
 }
   where
     no_holder : {d : ℕ} → w.holder ≡ Some d → w.holder ≡ None → ⊥
@@ -111,14 +105,7 @@ gone s w c good inv legal = record {
   nobody = grind (arith, nat_tests, inv.nobody, not_zero s w c inv legal);
   started = λ d. grind (arith, nat_tests, inv.started d);
   state = λ d. grind (arith, nat_tests, inv.state d);
-  clean_shade = λ d. grind (arith, nat_tests, inv.clean_shade d);
-  clean_depth = λ d. grind (arith, nat_tests, inv.clean_depth d);
-  clean_write = λ d. grind (arith, nat_tests, inv.clean_write d);
-  clean_blend = λ d. grind (arith, nat_tests, inv.clean_blend d);
-  clean_mode = λ d. grind (arith, nat_tests, inv.clean_mode d);
-  clean_wrap = λ d. grind (arith, nat_tests, inv.clean_wrap d);
-  clean_bound = λ d. grind (arith, nat_tests, inv.clean_bound d);
-  clean_scissor = λ d. grind (arith, nat_tests, inv.clean_scissor d);
+  clean = put_clean s w c (record (w.client c) { phase = Dead }) inv.clean (inv.clean c);
 }
   where
     r : Restacked s w (without_owner c w.stack)

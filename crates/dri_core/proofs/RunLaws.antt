@@ -16,7 +16,7 @@ use Rattle.dri_core.proofs.CoreLaws.{confined_core, own_core, solo_left_core}
 use Rattle.dri_core.proofs.Cores.{journal_is_hold_run, word_is_current}
 use Rattle.dri_core.proofs.Draws.{own_run}
 use Rattle.dri_core.proofs.Endings as Endings
-use Rattle.dri_core.proofs.Laws.{confined_run, light_is_current, acting_is_current, owner_is_clean}
+use Rattle.dri_core.proofs.Laws.{confined_run, light_is_current, acting_is_current}
 use Rattle.dri_core.proofs.OneTurn.{one_event, turns_are_legal, no_light_after_mark}
 use Rattle.dri_core.proofs.TurnEvents.{known_after}
 use Rattle.dri_core.proofs.Going.{turn_less, going_after}
@@ -40,7 +40,7 @@ module _ (s : Scene) (journal : List Entry) (good : InRange s) (run : HoldRun s 
 
   -- the owner's clean groups are in the card
   pub owner_clean : OwnerIsClean s (after s journal)
-  owner_clean = owner_is_clean s (after s journal) (sound_after s journal (well_formed s good) run)
+  owner_clean = (sound_after s journal (well_formed s good) run).main.clean
 
   -- placed textures are intact
   pub intact : Intact s (after s journal)
