@@ -62,7 +62,7 @@ not_true : (b : Bool) → not b ≡ true → b ≡ false
 not_true false e = refl
 not_true true e = absurd (true≢false (sym e))
 
-legal_is : (s : Scene) (w : World) (e : Entry) → is_legal_entry s w e ≡ true → LegalEntry s w e
+pub legal_is : (s : Scene) (w : World) (e : Entry) → is_legal_entry s w e ≡ true → LegalEntry s w e
 legal_is s w (Light c) e = grind (arith, nat_tests)
 legal_is s w (Kernel c found) e = grind (arith, nat_tests)
 legal_is s w (Stale c) e = phase_same _ _ e
@@ -80,7 +80,7 @@ legal_is s w (Info c) e = grind (arith, nat_tests)
 legal_is s w (Change i) e = grind (arith, nat_tests)
 legal_is s w (Gone c) e = grind (arith, nat_tests, die_is (command_at s c (w.client c).place))
 
-is_legal : (s : Scene) (w : World) (e : Entry) → LegalEntry s w e → is_legal_entry s w e ≡ true
+pub is_legal : (s : Scene) (w : World) (e : Entry) → LegalEntry s w e → is_legal_entry s w e ≡ true
 is_legal s w (Light c) h = grind (arith, nat_tests)
 is_legal s w (Kernel c found) h = grind (arith, nat_tests)
 is_legal s w (Stale c) h = rw h refl

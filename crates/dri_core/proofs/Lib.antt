@@ -16,6 +16,7 @@ pub mod Stood
 pub mod Cores
 pub mod CoreLaws
 pub mod Decide
+pub mod FirstBad
 pub mod Queues
 pub mod EventTurns
 pub mod TurnEvents

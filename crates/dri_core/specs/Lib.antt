@@ -13,5 +13,6 @@ pub mod CoreRuns
 pub mod Turns
 pub mod TurnLaws
 pub mod Decide
+pub mod FirstBad
 pub mod Measures
 pub mod ExampleParts

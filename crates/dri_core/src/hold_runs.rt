@@ -1,11 +1,12 @@
 //! The laws of hold-runs: the journals that the table of entries allows.
 
-ghost use Rattle.std.specs.Prelude.{◌≡◌, ◌≢◌, ◌≤◌, ◌+◌, length, ◌++◌, ℕ, List, true, Some, Contains};
+ghost use Rattle.std.specs.Prelude.{◌⊎◌, ◌≡◌, ◌≢◌, ◌≤◌, ◌+◌, length, ◌++◌, ℕ, List, true, Some, Contains};
 ghost use Rattle.std.specs.List.{All};
 ghost use Rattle.dri_base.specs.declared.command.Command.{Command};
 ghost use Rattle.dri_base.specs.declared.journal.Entry.{Entry};
 ghost use Rattle.dri_base.specs.declared.scene.Scene.{Scene};
 ghost use Rattle.dri_core.specs.Decide.{is_hold_run};
+ghost use Rattle.dri_core.specs.FirstBad.{IsFirstBad};
 ghost use Rattle.dri_core.specs.Frames.{Own, SoloLeft, StampTells};
 ghost use Rattle.dri_core.specs.Runs.{after, HoldRun, Confined, LightIsCurrent, ActingIsCurrent, OwnerIsClean, Intact, BeginsWith, since, client_of};
 ghost use Rattle.dri_base.specs.Ranges.{InRange, client_numbers};
@@ -62,6 +63,14 @@ pub fn foreign(scene: &Scene, client: u32, seen: &Entries, now: &Entries)
 pub fn decided()
     ensures yes { (s : Scene) (journal : List Entry) → is_hold_run s journal ≡ true → HoldRun s journal }
     ensures no { (s : Scene) (journal : List Entry) → HoldRun s journal → is_hold_run s journal ≡ true }
+{}
+
+/// A journal is a hold-run, or it has a first entry that isn't legal after those before it, and never both. That entry's
+/// number, counted from 1, is one alone.
+pub fn judged()
+    ensures either { (s : Scene) (journal : List Entry) → HoldRun s journal ⊎ ((n : ℕ) × IsFirstBad s journal n) }
+    ensures not_both { (s : Scene) (journal : List Entry) (n : ℕ) → HoldRun s journal → IsFirstBad s journal n → ⊥ }
+    ensures one { (s : Scene) (journal : List Entry) (m n : ℕ) → IsFirstBad s journal m → IsFirstBad s journal n → m ≡ n }
 {}
 
 /// A script's frame k is found exactly where it exists and begins with a clear: then at its last clear and its swap.

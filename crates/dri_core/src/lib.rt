@@ -8,6 +8,6 @@ mod later;
 
 pub use core_runs::{core, rounds_end, turns};
 pub use hold_runs::{
-    bounded, central, confined, decided, foreign, frames, own, solo_left, stamped,
+    bounded, central, confined, decided, foreign, frames, judged, own, solo_left, stamped,
 };
 pub use later::{lasting, plain_in_range, whole_by_parts};

@@ -13,8 +13,8 @@ mod triangle;
 mod worked;
 
 pub use dri_core::{
-    bounded, central, confined, core, decided, foreign, frames, lasting, own, plain_in_range,
-    rounds_end, solo_left, stamped, turns, whole_by_parts,
+    bounded, central, confined, core, decided, foreign, frames, judged, lasting, own,
+    plain_in_range, rounds_end, solo_left, stamped, turns, whole_by_parts,
 };
 pub use picture::{Picture, Pixels, SoloFault, solo_picture};
 pub use solo::solo_pixel;
