@@ -13,7 +13,9 @@ use Rattle.dri_base.specs.declared.state.DepthFunc.{DepthFunc}
 use Rattle.dri_base.specs.declared.state.Setting.TheVariants as Setting_is
 use Rattle.dri_core.specs.ExampleParts.{rgb, script}
 use Rattle.dri_core.specs.Solo.{solo_frame}
-use Rattle.dri_meaning.specs.ExampleScenes.{two_images, probed}
+use Rattle.dri_meaning.specs.ExampleScenes.{moved_about, two_images, probed}
+use Rattle.dri_model.specs.Stacks.{Refusal, refusal}
+use Rattle.dri_base.specs.declared.command.Change.{Change as WindowChange}
 use Rattle.dri_meaning.specs.Reports.{tally, is_whole}
 use Rattle.dri_core.specs.Runs.{after}
 
@@ -112,6 +114,14 @@ partly_covered_journal = first_hold 1 1 ++ Run 1 1 ∷ Run 1 2 ∷ Leave 1 ∷ C
 -- so many changes
 abbrev pub seven_changes : List Entry
 seven_changes = Change 1 ∷ Change 2 ∷ Change 3 ∷ Change 4 ∷ Change 5 ∷ Change 6 ∷ Change 7 ∷ []
+
+-- four greys in a row
+abbrev pub row : ℕ → ℕ → ℕ → ℕ → List Rgb
+row a b c d = grey a ∷ grey b ∷ grey c ∷ grey d ∷ []
+
+-- why these changes are refused after so many changes, if they are
+abbrev pub refusals_after : ℕ → List WindowChange → List (Option Refusal)
+refusals_after n changes = map (λ change. refusal change (after moved_about (take n seven_changes)).stack) changes
 
 -- nothing is emitted in the last hold
 abbrev pub taken_again_journal : List Entry

@@ -109,12 +109,22 @@ partly_covered = scene 3 1
     (script 1 [] (Clear (rgb 0xff 0 0) 65535 ∷ Swap ∷ []) ∷ [])
     (Raise 2 ∷ Lower 2 ∷ []) raised_and_lowered
 
--- two windows whose corners aren't 0, each kind of change in its turn, and one that is refused
+-- three windows whose corners aren't 0, each kind of change in its turn, and one that is refused
 abbrev pub moved_about : Scene
 moved_about = scene 4 3
-    (window 1 (pos 1) (pos 1) 1 1 (rgb 0x11 0x11 0x11) 0 ∷ window 2 (pos 1) (pos 1) 2 2 (rgb 0x22 0x22 0x22) 0 ∷ [])
+    (window 1 (pos 1) (pos 1) 1 1 (rgb 0x11 0x11 0x11) 0 ∷ window 2 (pos 1) (pos 1) 2 2 (rgb 0x22 0x22 0x22) 0 ∷
+    window 3 (pos 1) (pos 1) 3 1 (rgb 0x33 0x33 0x33) 0 ∷ [])
     []
-    (Move 1 (pos 2) (pos 1) ∷ Resize 1 2 1 ∷ Raise 2 ∷ Unmap 2 ∷ Map 2 ∷ Lower 2 ∷ Map 2 ∷ []) []
+    (Move 1 (pos 2) (pos 1) ∷ Resize 1 2 1 ∷ Raise 2 ∷ Unmap 1 ∷ Map 1 ∷ Lower 2 ∷ Move 2 (pos 1025) (pos 1) ∷ []) []
+
+-- changes that are refused where window 1 is unmapped and window 2 is mapped
+abbrev pub refused_changes : List Change
+refused_changes =
+    Move 9 (pos 1025) (pos 0) ∷ Move 1 (pos 1025) (pos 0) ∷ Move 1 (pos 0) (neg_ℤ (pos 1025)) ∷ Resize 1 0 1 ∷ Resize 1 1 1025 ∷ Map 2 ∷ Unmap 1 ∷ []
+
+-- and changes that aren't
+abbrev pub allowed_changes : List Change
+allowed_changes = Move 1 (neg_ℤ (pos 1024)) (pos 1024) ∷ Resize 1 1024 1 ∷ Map 1 ∷ Unmap 2 ∷ Raise 2 ∷ Lower 1 ∷ []
 
 -- a client that owns two windows is killed
 abbrev pub two_windows : Scene

@@ -14,10 +14,11 @@ ghost use Rattle.dri_base.specs.declared.state.Wrap.TheVariants.{Clamp};
 ghost use Rattle.dri_core.specs.ExampleParts.{rgb};
 ghost use Rattle.dri_core.specs.Decide.{is_hold_run};
 ghost use Rattle.dri_core.specs.Cores.{journal_of};
-ghost use Rattle.dri_meaning.specs.ExampleScenes.{one_triangle, two_frames, under_another, killed_first, dies, covered, beside, waiting_one, killed, one_region, cut_out, blended_twice, partly_covered, moved_about, two_windows, shown_twice, taken_again, stopped_in_the_queue, in_depth, by_default, along_the_row, two_regions, probed, turned_probe, on_depth_24, then_less_deep, to_the_right, below};
-ghost use Rattle.dri_meaning.specs.ExampleRuns.{picture, summary, word_after_all, red, green, blue, grey, one_triangle_journal, two_frames_journal, dies_journal, covered_journal, beside_journal, waiting_one_journal, killed_journal, one_region_journal, cut_out_journal, blended_twice_journal, partly_covered_journal, seven_changes, taken_again_journal, stopped_journal, first_hold, two_regions_journal, alone, ground, third, all_three, greys, where_drawn};
+ghost use Rattle.dri_meaning.specs.ExampleScenes.{one_triangle, two_frames, under_another, killed_first, dies, covered, beside, waiting_one, killed, one_region, cut_out, blended_twice, partly_covered, moved_about, refused_changes, allowed_changes, two_windows, shown_twice, taken_again, stopped_in_the_queue, in_depth, by_default, along_the_row, two_regions, probed, turned_probe, on_depth_24, then_less_deep, to_the_right, below};
+ghost use Rattle.dri_meaning.specs.ExampleRuns.{picture, summary, word_after_all, red, green, blue, grey, one_triangle_journal, two_frames_journal, dies_journal, covered_journal, beside_journal, waiting_one_journal, killed_journal, one_region_journal, cut_out_journal, blended_twice_journal, partly_covered_journal, seven_changes, row, refusals_after, taken_again_journal, stopped_journal, first_hold, two_regions_journal, alone, ground, third, all_three, greys, where_drawn};
 ghost use Rattle.dri_core.specs.Runs.{after, HoldRun};
 ghost use Rattle.dri_base.specs.Ranges.{InRange};
+ghost use Rattle.dri_model.specs.Stacks.{NoWindow, OutOfRange, AlreadyMapped, NotMapped};
 ghost use Rattle.dri_base.specs.Scenes.{script_of};
 ghost use Rattle.dri_core.specs.Solo.{solo_frame};
 ghost use Rattle.dri_core.specs.Turns.{turns_and_rounds};
@@ -131,14 +132,20 @@ pub fn covered_in_part()
 
 /// Each kind of change of a window whose corner isn't 0, and one that is refused.
 pub fn changes_one_by_one()
-    ensures moved { picture moved_about (take 1 seven_changes) ≡ (grey 0 ∷ grey 0 ∷ grey 0 ∷ grey 0 ∷ []) ∷ (grey 0 ∷ grey 0x22 ∷ grey 0x11 ∷ grey 0 ∷ []) ∷ (grey 0 ∷ grey 0x22 ∷ grey 0x22 ∷ grey 0 ∷ []) ∷ [] }
-    ensures resized { picture moved_about (take 2 seven_changes) ≡ (grey 0 ∷ grey 0 ∷ grey 0 ∷ grey 0 ∷ []) ∷ (grey 0 ∷ grey 0x22 ∷ grey 0x11 ∷ grey 0x11 ∷ []) ∷ (grey 0 ∷ grey 0x22 ∷ grey 0x22 ∷ grey 0 ∷ []) ∷ [] }
-    ensures raised { picture moved_about (take 3 seven_changes) ≡ (grey 0 ∷ grey 0 ∷ grey 0 ∷ grey 0 ∷ []) ∷ (grey 0 ∷ grey 0x22 ∷ grey 0x22 ∷ grey 0x11 ∷ []) ∷ (grey 0 ∷ grey 0x22 ∷ grey 0x22 ∷ grey 0 ∷ []) ∷ [] }
-    ensures unmapped { picture moved_about (take 4 seven_changes) ≡ (grey 0 ∷ grey 0 ∷ grey 0 ∷ grey 0 ∷ []) ∷ (grey 0 ∷ grey 0 ∷ grey 0x11 ∷ grey 0x11 ∷ []) ∷ (grey 0 ∷ grey 0 ∷ grey 0 ∷ grey 0 ∷ []) ∷ [] }
-    ensures mapped { picture moved_about (take 5 seven_changes) ≡ (grey 0 ∷ grey 0 ∷ grey 0 ∷ grey 0 ∷ []) ∷ (grey 0 ∷ grey 0x22 ∷ grey 0x22 ∷ grey 0x11 ∷ []) ∷ (grey 0 ∷ grey 0x22 ∷ grey 0x22 ∷ grey 0 ∷ []) ∷ [] }
-    ensures lowered { picture moved_about (take 6 seven_changes) ≡ (grey 0 ∷ grey 0 ∷ grey 0 ∷ grey 0 ∷ []) ∷ (grey 0 ∷ grey 0x22 ∷ grey 0x11 ∷ grey 0x11 ∷ []) ∷ (grey 0 ∷ grey 0x22 ∷ grey 0x22 ∷ grey 0 ∷ []) ∷ [] }
-    ensures refused { (after moved_about seven_changes).counter ≡ (after moved_about (take 6 seven_changes)).counter }
+    ensures moved { picture moved_about (take 1 seven_changes) ≡ row 0 0 0 0 ∷ row 0 0x22 0x11 0x33 ∷ row 0 0x22 0x22 0 ∷ [] }
+    ensures resized { picture moved_about (take 2 seven_changes) ≡ row 0 0 0 0 ∷ row 0 0x22 0x11 0x11 ∷ row 0 0x22 0x22 0 ∷ [] }
+    ensures raised { picture moved_about (take 3 seven_changes) ≡ row 0 0 0 0 ∷ row 0 0x22 0x22 0x11 ∷ row 0 0x22 0x22 0 ∷ [] }
+    ensures unmapped { picture moved_about (take 4 seven_changes) ≡ row 0 0 0 0 ∷ row 0 0x22 0x22 0x33 ∷ row 0 0x22 0x22 0 ∷ [] }
+    ensures mapped { picture moved_about (take 5 seven_changes) ≡ row 0 0 0 0 ∷ row 0 0x22 0x22 0x11 ∷ row 0 0x22 0x22 0 ∷ [] }
+    ensures lowered { picture moved_about (take 6 seven_changes) ≡ row 0 0 0 0 ∷ row 0 0x33 0x11 0x11 ∷ row 0 0x22 0x22 0 ∷ [] }
+    ensures refused { picture moved_about seven_changes ≡ picture moved_about (take 6 seven_changes) }
     ensures summary { summary moved_about seven_changes ≡ (0, 0, true) }
+{}
+
+/// Why a change is refused, and the outermost numbers that aren't.
+pub fn why_refused()
+    ensures refused { refusals_after 4 refused_changes ≡ Some NoWindow ∷ Some OutOfRange ∷ Some OutOfRange ∷ Some OutOfRange ∷ Some OutOfRange ∷ Some AlreadyMapped ∷ Some NotMapped ∷ [] }
+    ensures allowed { refusals_after 4 allowed_changes ≡ None ∷ None ∷ None ∷ None ∷ None ∷ None ∷ [] }
 {}
 
 /// A death unmaps each window of its client.
@@ -171,6 +178,7 @@ pub fn no_hold_runs()
     ensures other_context { is_hold_run two_frames (Kernel 1 3 ∷ []) ≡ false }
     ensures own_context { is_hold_run two_frames (take 8 two_frames_journal ++ Kernel 1 2 ∷ []) ≡ false }
     ensures leaves_early { is_hold_run two_frames (first_hold 1 1 ++ Leave 1 ∷ []) ≡ false }
+    ensures leaves_outside { is_hold_run two_frames (Leave 1 ∷ []) ≡ false }
     ensures leaves_untold { is_hold_run two_frames (Kernel 1 1 ∷ Leave 1 ∷ []) ≡ false }
     ensures not_asking { is_hold_run two_frames (Info 1 ∷ []) ≡ false }
     ensures informed_early { is_hold_run waiting_one (Kernel 2 1 ∷ Stale 2 ∷ Leave 2 ∷ Kernel 1 3 ∷ Info 2 ∷ []) ≡ false }
@@ -181,7 +189,8 @@ pub fn no_hold_runs()
     ensures dies_outside { is_hold_run dies (take 8 dies_journal ++ Gone 1 ∷ []) ≡ false }
     ensures dies_twice { is_hold_run killed (Gone 1 ∷ Gone 1 ∷ []) ≡ false }
     ensures dies_in_anothers_hold { is_hold_run killed (Kernel 2 1 ∷ Gone 1 ∷ []) ≡ false }
-    ensures runs_twice { is_hold_run two_frames (take 11 two_frames_journal ++ Run 1 4 ∷ Run 1 4 ∷ []) ≡ false }
+    ensures runs_another { is_hold_run two_frames (first_hold 1 1 ++ Run 1 2 ∷ []) ≡ false }
+    ensures runs_on { is_hold_run two_frames (first_hold 1 1 ++ Run 1 1 ∷ Run 1 2 ∷ Run 1 3 ∷ []) ≡ false }
 {}
 
 /// Depths are compared and written where they are set, and neither in the default state, whose triangles are flat.
