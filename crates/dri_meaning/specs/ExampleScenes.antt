@@ -3,12 +3,14 @@ use Rattle.std.specs.Prelude.{ℕ, List, [], ◌∷◌, ◌++◌, ℤ, pos, neg_
 use Rattle.dri_base.specs.declared.colour.Rgb.{Rgb}
 use Rattle.dri_base.specs.declared.colour.Rgba.{Rgba}
 use Rattle.dri_base.specs.declared.command.Change.TheVariants.{Map, Unmap, Move, Resize, Raise, Lower}
+use Rattle.dri_base.specs.declared.command.Change.{Change}
 use Rattle.dri_base.specs.declared.command.Command.TheVariants.{Set, Clear, Triangle, Swap, Yield, Die}
 use Rattle.dri_base.specs.declared.command.Command.{Command}
 use Rattle.dri_base.specs.declared.command.Item.TheVariants.{Turn, Kill}
 use Rattle.dri_base.specs.declared.command.Item.{Item}
 use Rattle.dri_base.specs.declared.scene.ClientScript.{ClientScript}
 use Rattle.dri_base.specs.declared.scene.Scene.{Scene}
+use Rattle.dri_base.specs.declared.shape.Vertex.{Vertex}
 use Rattle.dri_base.specs.declared.state.Blend.TheVariants as Blend_is
 use Rattle.dri_base.specs.declared.state.DepthFunc.TheVariants as Depth_is
 use Rattle.dri_base.specs.declared.state.Setting.TheVariants as Setting_is

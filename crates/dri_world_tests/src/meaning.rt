@@ -14,6 +14,7 @@ use dri_meaning::{
     death_of_two_windows, decided, depths, each_depth, each_setting, frames, killed_before,
     killed_in_a_hold, marked, no_hold_runs, own, own_card, rounds_end, shown_again, solo_left,
     solo_picture, solo_pixel, stopped, turns, two_blends, two_holds, two_places, two_textures,
+    why_refused,
 };
 use std::alloc::Global;
 use std::test::Fail;
@@ -49,6 +50,7 @@ fn worked_scenes() {
     two_blends();
     covered_in_part();
     changes_one_by_one();
+    why_refused();
     death_of_two_windows();
     shown_again();
     own_card();
