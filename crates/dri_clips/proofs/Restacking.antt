@@ -8,10 +8,11 @@ use Rattle.std.proofs.lemmas.List.{take_all, drop_all, length-append, length-tak
 use Rattle.std.proofs.lemmas.List.Elements.{All-map, All-append, All-filter, All-weaker}
 use Rattle.indexmap.specs.IndexMap.{move_index}
 use Rattle.dri_base.specs.declared.scene.Window.{Window}
-use Rattle.dri_base.specs.Ranges.{IsPlace, IsSide, WindowInRange}
+use Rattle.dri_base.specs.Ranges.{IsPlace, IsSide, WindowInRange, is_corner, is_side}
+use Rattle.dri_base.proofs.RegionSizes.{corner_is, side_is}
 use Rattle.dri_base.specs.declared.command.Change.{Change}
 use Rattle.dri_base.specs.declared.command.Change.TheVariants.{Map, Unmap, Move, Resize, Raise, Lower}
-use Rattle.dri_model.specs.Stacks.{Refusal, altered, changed, is_corner, is_side, named_by, refusal, refused_at, refused_for, stack_after, unless_refused, window_in, without_owner, unmapped}
+use Rattle.dri_model.specs.Stacks.{Refusal, altered, changed, named_by, refusal, refused_at, refused_for, stack_after, unless_refused, window_in, without_owner, unmapped}
 use Rattle.dri_clips.specs.Layouts.{AreApart, IsAbsent, IsPlaced, SameNumbers}
 use Rattle.dri_clips.specs.Refusals.{altered_by, destination}
 use Rattle.dri_clips.proofs.Placing.{placed_below, window_at, window_absent}

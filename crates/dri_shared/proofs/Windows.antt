@@ -5,7 +5,8 @@ use Rattle.std.proofs.lemmas.Bool.{and_parts}
 use Rattle.std.proofs.lemmas.Bool.Decides.{eqb_tells}
 use Rattle.std.proofs.lemmas.Int.{ints}
 use Rattle.std.proofs.lemmas.List.Elements.{All-head, All-tail}
-use Rattle.dri_base.specs.Ranges.{InRange, IsPlace, WindowInRange, owner_of, window_numbers}
+use Rattle.dri_base.proofs.RegionSizes.{corner_is}
+use Rattle.dri_base.specs.Ranges.{InRange, IsPlace, WindowInRange, owner_of, window_numbers, is_corner}
 use Rattle.dri_base.specs.declared.command.Change.{Change}
 use Rattle.dri_base.specs.declared.command.Change.TheVariants.{Map, Unmap, Move, Resize, Raise, Lower}
 use Rattle.dri_base.specs.declared.journal.Entry.{Entry}
@@ -16,7 +17,7 @@ use Rattle.dri_core.specs.EntryTable.{after_entry}
 use Rattle.dri_core.specs.Restacks.{change_stack}
 use Rattle.dri_core.specs.Runs.{after, after_entries}
 use Rattle.dri_core.specs.Worlds.{World, opening}
-use Rattle.dri_model.specs.Stacks.{Refusal, changed, is_corner, origin, refusal, refused_for, unless_refused, unmapped, window_in, without_owner}
+use Rattle.dri_model.specs.Stacks.{Refusal, changed, origin, refusal, refused_for, unless_refused, unmapped, window_in, without_owner}
 
 -- the stack has window n
 abbrev pub Has : ℕ → List Window → Type 0
@@ -93,12 +94,6 @@ placed_kept true v w f p = f p
 placed_kept false v w f p = p
 
 -- a corner that isn't refused
-corner_is : (x : ℤ) → is_corner x ≡ true → IsPlace x
-corner_is x e =
-    let both = and_parts (int_le (neg_ℤ (pos 1024)) x) (int_le x (pos 1024)) e in
-    let low : int_le (neg_ℤ (pos 1024)) x ≡ true = both.0 in
-    let high : int_le x (pos 1024) ≡ true = both.1 in (grind (arith, ints), grind (arith, ints))
-
 moved_is : (m : ℕ) (x y : ℤ) (o : Option Window) → refused_for (Move m x y) o ≡ None → IsPlace x × IsPlace y
 moved_is m x y None e = absurd (cc)
 moved_is m x y (Some w) e = by_case (is_corner x && is_corner y) refl
