@@ -14,7 +14,6 @@ use dri_base::{ClipRect, Point, Rect, Rgb, Steps, Triangle};
 use dri_card::Card;
 use dri_cmdbuf::Buffer;
 use dri_rect::Region;
-use std::marker::Brand;
 use std::sync::ledger::{Blank, Ledger};
 
 /// A rectangle of the screen as the card takes it.
@@ -30,87 +29,50 @@ pub(crate) fn clip_rect(rect: &Rect) -> ClipRect
     }
 }
 
-fn clear_rects<L: Ledger>(
+/// Writes a colour and a depth into each pixel of the clips. The steps are counted from the blank on.
+pub(crate) fn clear_clips<L: Ledger>(
+    blank: Blank,
     card: &mut Card,
     clips: &Region,
     colour: Rgb,
     depth: u16,
-    steps: &mut Steps<L>,
 )
+    requires name { blank.name ≡ L.name }
+    requires parts { blank.parts ≡ L.parts }
+    requires one { L.parts ≡ 1 }
     requires screen { IsScreen card.old }
     requires within { StayOn card.old clips.now }
     ensures held { (f : ℕ → ℕ → Pixel) → Holds card.old f → Holds card.new (cleared_in clips.now colour depth f) }
     ensures others { OnlyDrawn card.old card.new }
     ensures sides { KeepSides card.old card.new }
 {
+    let mut steps = Steps::<L>::new(blank);
     clips.arranged();
     for n in 0..clips.len() {
-        card.clear(clip_rect(&clips.rect(n)), colour, depth, steps)
-            .unwrap();
+        let rect = clip_rect(&clips.rect(n));
+        card.clear(rect, colour, depth, &mut steps).unwrap();
     }
 }
 
-fn clear_counted<L: Ledger>(blank: Blank, card: &mut Card, clips: &Region, colour: Rgb, depth: u16)
+/// Copies each pixel of the clips from back to front. The steps are counted from the blank on.
+pub(crate) fn swap_clips<L: Ledger>(blank: Blank, card: &mut Card, clips: &Region)
     requires name { blank.name ≡ L.name }
     requires parts { blank.parts ≡ L.parts }
     requires one { L.parts ≡ 1 }
-    requires screen { IsScreen card.old }
-    requires within { StayOn card.old clips.now }
-    ensures held { (f : ℕ → ℕ → Pixel) → Holds card.old f → Holds card.new (cleared_in clips.now colour depth f) }
-    ensures others { OnlyDrawn card.old card.new }
-    ensures sides { KeepSides card.old card.new }
-{
-    clear_rects(card, clips, colour, depth, &mut Steps::<L>::new(blank));
-}
-
-/// Writes a colour and a depth into each pixel of the clips.
-pub(crate) fn clear_clips(card: &mut Card, clips: &Region, colour: Rgb, depth: u16)
-    requires screen { IsScreen card.old }
-    requires within { StayOn card.old clips.now }
-    ensures held { (f : ℕ → ℕ → Pixel) → Holds card.old f → Holds card.new (cleared_in clips.now colour depth f) }
-    ensures others { OnlyDrawn card.old card.new }
-    ensures sides { KeepSides card.old card.new }
-{
-    clear_counted::<Brand>(Blank::new(1), card, clips, colour, depth);
-}
-
-fn swap_rects<L: Ledger>(card: &mut Card, clips: &Region, steps: &mut Steps<L>)
     requires screen { IsScreen card.old }
     requires within { StayOn card.old clips.now }
     ensures shown { (f : ℕ → ℕ → Pixel) (front : ℕ → ℕ → Rgb) → Holds card.old f → Shows card.old front → Shows card.new (swapped_in clips.now f front) }
     ensures others { OnlyShown card.old card.new }
     ensures sides { KeepSides card.old card.new }
 {
+    let mut steps = Steps::<L>::new(blank);
     clips.arranged();
     for i in 0..clips.len() {
-        card.swap(clip_rect(&clips.rect(i)), steps).unwrap();
+        card.swap(clip_rect(&clips.rect(i)), &mut steps).unwrap();
     }
 }
 
-fn swap_counted<L: Ledger>(blank: Blank, card: &mut Card, clips: &Region)
-    requires name { blank.name ≡ L.name }
-    requires parts { blank.parts ≡ L.parts }
-    requires one { L.parts ≡ 1 }
-    requires screen { IsScreen card.old }
-    requires within { StayOn card.old clips.now }
-    ensures shown { (f : ℕ → ℕ → Pixel) (front : ℕ → ℕ → Rgb) → Holds card.old f → Shows card.old front → Shows card.new (swapped_in clips.now f front) }
-    ensures others { OnlyShown card.old card.new }
-    ensures sides { KeepSides card.old card.new }
-{
-    swap_rects(card, clips, &mut Steps::<L>::new(blank));
-}
-
-/// Copies each pixel of the clips from back to front.
-pub(crate) fn swap_clips(card: &mut Card, clips: &Region)
-    requires screen { IsScreen card.old }
-    requires within { StayOn card.old clips.now }
-    ensures shown { (f : ℕ → ℕ → Pixel) (front : ℕ → ℕ → Rgb) → Holds card.old f → Shows card.old front → Shows card.new (swapped_in clips.now f front) }
-    ensures others { OnlyShown card.old card.new }
-    ensures sides { KeepSides card.old card.new }
-{
-    swap_counted::<Brand>(Blank::new(1), card, clips);
-}
-
+/// Draws the buffer's triangle at each pixel of a rectangle.
 fn draw_rect<L: Ledger>(
     card: &mut Card,
     rect: &Rect,
@@ -133,31 +95,9 @@ fn draw_rect<L: Ledger>(
     card.dispatch(buffer, origin, steps).unwrap();
 }
 
-fn draw_rects<L: Ledger>(
-    card: &mut Card,
-    clips: &Region,
-    origin: Point,
-    triangle: &Triangle,
-    buffer: &Buffer,
-    steps: &mut Steps<L>,
-)
-    requires screen { IsScreen card.old }
-    requires within { StayOn card.old clips.now }
-    requires x { IsPlace origin.x }
-    requires y { IsPlace origin.y }
-    requires triangle { IsTriangle triangle.now }
-    requires words { buffer.now ≡ triangle_words triangle.now }
-    ensures held { (f : ℕ → ℕ → Pixel) → Holds card.old f → Holds card.new (drawn_in card.old origin triangle.now clips.now f) }
-    ensures others { OnlyDrawnOn card.old card.new }
-    ensures sides { KeepSides card.old card.new }
-{
-    clips.arranged();
-    for i in 0..clips.len() {
-        draw_rect(card, &clips.rect(i), origin, triangle, buffer, steps);
-    }
-}
-
-fn draw_counted<L: Ledger>(
+/// Draws a triangle at each pixel of the clips, with the card's registers and texture memory. The window's pixel is the
+/// screen's less the origin. The steps are counted from the blank on.
+pub(crate) fn draw_clips<L: Ledger>(
     blank: Blank,
     card: &mut Card,
     clips: &Region,
@@ -176,29 +116,11 @@ fn draw_counted<L: Ledger>(
     ensures others { OnlyDrawnOn card.old card.new }
     ensures sides { KeepSides card.old card.new }
 {
+    let mut steps = Steps::<L>::new(blank);
     let mut buffer = Buffer::new();
     buffer.push_triangle(triangle).unwrap();
-    draw_rects(
-        card,
-        clips,
-        origin,
-        triangle,
-        &buffer,
-        &mut Steps::<L>::new(blank),
-    );
-}
-
-/// Draws a triangle at each pixel of the clips, with the card's registers and texture memory. The window's pixel is the
-/// screen's less the origin.
-pub(crate) fn draw_clips(card: &mut Card, clips: &Region, origin: Point, triangle: &Triangle)
-    requires screen { IsScreen card.old }
-    requires within { StayOn card.old clips.now }
-    requires x { IsPlace origin.x }
-    requires y { IsPlace origin.y }
-    requires range { TriangleInRange triangle.now }
-    ensures held { (f : ℕ → ℕ → Pixel) → Holds card.old f → Holds card.new (drawn_in card.old origin triangle.now clips.now f) }
-    ensures others { OnlyDrawnOn card.old card.new }
-    ensures sides { KeepSides card.old card.new }
-{
-    draw_counted::<Brand>(Blank::new(1), card, clips, origin, triangle);
+    clips.arranged();
+    for i in 0..clips.len() {
+        draw_rect(card, &clips.rect(i), origin, triangle, &buffer, &mut steps);
+    }
 }

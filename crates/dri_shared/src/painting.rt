@@ -15,10 +15,10 @@ use dri_base::{Change, OutOfMemory, Steps};
 use dri_card::Card;
 use dri_clips::{Board, ChangeFault, Paint};
 use std::alloc::Global;
-use std::marker::Brand;
 use std::sync::ledger::{Blank, Ledger};
 
-fn paint_each<L: Ledger>(card: &mut Card, paints: &[Paint], steps: &mut Steps<L>)
+/// Makes the paints in front, one after the other.
+fn paint<L: Ledger>(card: &mut Card, paints: &[Paint], steps: &mut Steps<L>)
     requires screen { IsScreen card.old }
     requires shown { All (λ p. IsOnScreen card.old.front.width card.old.front.height p.rect) paints.now }
     ensures shown { (front : ℕ → ℕ → Rgb) → Shows card.old front → Shows card.new (filled paints.now front) }
@@ -28,30 +28,6 @@ fn paint_each<L: Ledger>(card: &mut Card, paints: &[Paint], steps: &mut Steps<L>
     for paint in paints {
         card.paint(paint.rect, paint.colour, steps).unwrap();
     }
-}
-
-fn paint_counted<L: Ledger>(blank: Blank, card: &mut Card, paints: &[Paint])
-    requires name { blank.name ≡ L.name }
-    requires parts { blank.parts ≡ L.parts }
-    requires one { L.parts ≡ 1 }
-    requires screen { IsScreen card.old }
-    requires shown { All (λ p. IsOnScreen card.old.front.width card.old.front.height p.rect) paints.now }
-    ensures shown { (front : ℕ → ℕ → Rgb) → Shows card.old front → Shows card.new (filled paints.now front) }
-    ensures others { OnlyShown card.old card.new }
-    ensures sides { KeepSides card.old card.new }
-{
-    paint_each(card, paints, &mut Steps::<L>::new(blank));
-}
-
-/// Makes the paints in front, one after the other.
-fn paint(card: &mut Card, paints: &[Paint])
-    requires screen { IsScreen card.old }
-    requires shown { All (λ p. IsOnScreen card.old.front.width card.old.front.height p.rect) paints.now }
-    ensures shown { (front : ℕ → ℕ → Rgb) → Shows card.old front → Shows card.new (filled paints.now front) }
-    ensures others { OnlyShown card.old card.new }
-    ensures sides { KeepSides card.old card.new }
-{
-    paint_counted::<Brand>(Blank::new(1), card, paints);
 }
 
 /// Why a change wasn't made: a refusal by the board is as good as done, want of memory isn't.
@@ -64,8 +40,9 @@ fn refused(fault: ChangeFault) -> Result<(), OutOfMemory>
     }
 }
 
-// The regions of a change count steps that nobody asks for.
-fn change_counted<L: Ledger>(
+/// Makes a change of the windows, and paints front. One that the board refuses changes nothing. The steps are counted from
+/// the blank on.
+pub(crate) fn change_windows<L: Ledger>(
     blank: Blank,
     alloc: Global,
     board: &mut Board,
@@ -82,34 +59,18 @@ fn change_counted<L: Ledger>(
     ensures ok { OnOk result (IsRestackedOn (stack_after change.now board.old.stack) board.old board.new card.old card.new) }
     ensures err { OnErr result ((board.new ≡ board.old) × (card.new ≡ card.old)) }
 {
-    match board.apply(alloc, change, &mut Steps::<L>::new(blank)) {
+    let mut steps = Steps::<L>::new(blank);
+    match board.apply(alloc, change, &mut steps) {
         Ok(touched) => {
-            paint(card, touched.paints.as_slice());
+            paint(card, touched.paints.as_slice(), &mut steps);
             Ok(())
         }
         Err(fault) => refused(fault),
     }
 }
 
-/// Makes a change of the windows, and paints front. One that the board refuses changes nothing.
-pub(crate) fn change_windows(
-    alloc: Global,
-    board: &mut Board,
-    card: &mut Card,
-    change: &Change,
-) -> Result<(), OutOfMemory>
-    requires counter { board.old.counter ≤ 4294967231 }
-    requires screen { IsScreen card.old }
-    requires width { card.old.front.width ≡ board.old.width }
-    requires height { card.old.front.height ≡ board.old.height }
-    ensures ok { OnOk result (IsRestackedOn (stack_after change.now board.old.stack) board.old board.new card.old card.new) }
-    ensures err { OnErr result ((board.new ≡ board.old) × (card.new ≡ card.old)) }
-{
-    change_counted::<Brand>(Blank::new(1), alloc, board, card, change)
-}
-
-// So do those of a death.
-fn unmap_counted<L: Ledger>(
+/// Unmaps the windows of an owner, and paints front. The steps are counted from the blank on.
+pub(crate) fn unmap_windows<L: Ledger>(
     blank: Blank,
     alloc: Global,
     board: &mut Board,
@@ -126,24 +87,8 @@ fn unmap_counted<L: Ledger>(
     ensures ok { OnOk result (IsRestackedOn (without_owner owner board.old.stack) board.old board.new card.old card.new) }
     ensures err { OnErr result ((board.new ≡ board.old) × (card.new ≡ card.old)) }
 {
-    let touched = board.unmap_owner(alloc, owner, &mut Steps::<L>::new(blank))?;
-    paint(card, touched.paints.as_slice());
+    let mut steps = Steps::<L>::new(blank);
+    let touched = board.unmap_owner(alloc, owner, &mut steps)?;
+    paint(card, touched.paints.as_slice(), &mut steps);
     Ok(())
-}
-
-/// Unmaps the windows of an owner, and paints front.
-pub(crate) fn unmap_windows(
-    alloc: Global,
-    board: &mut Board,
-    card: &mut Card,
-    owner: u32,
-) -> Result<(), OutOfMemory>
-    requires counter { board.old.counter ≤ 4294967231 }
-    requires screen { IsScreen card.old }
-    requires width { card.old.front.width ≡ board.old.width }
-    requires height { card.old.front.height ≡ board.old.height }
-    ensures ok { OnOk result (IsRestackedOn (without_owner owner board.old.stack) board.old board.new card.old card.new) }
-    ensures err { OnErr result ((board.new ≡ board.old) × (card.new ≡ card.old)) }
-{
-    unmap_counted::<Brand>(Blank::new(1), alloc, board, card, owner)
 }

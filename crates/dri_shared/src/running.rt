@@ -16,6 +16,8 @@ use crate::shared::Shared;
 use dri_base::{Entry, Point};
 use dri_rect::Region;
 use dri_texheap::{Regions, Run};
+use std::marker::Brand;
+use std::sync::ledger::Blank;
 
 /// A use of the run that a triangle needs, where it needs one.
 fn touch(regions: &mut Regions, run: Option<Run>)
@@ -53,7 +55,7 @@ impl Shared {
     {
         let place = self.holdings.places[client as usize];
         let (colour, depth) = clear_of(command(&self.scene, client, place));
-        clear_clips(&mut self.holdings.card, clips, colour, depth);
+        clear_clips::<Brand>(Blank::new(1), &mut self.holdings.card, clips, colour, depth);
         self.holdings.places[client as usize] = place + 1;
         self.journal.push_reserved(Entry::Run { client, place });
     }
@@ -70,7 +72,13 @@ impl Shared {
     {
         let place = self.holdings.places[client as usize];
         let triangle = triangle_of(command(&self.scene, client, place));
-        draw_clips(&mut self.holdings.card, clips, origin, &triangle);
+        draw_clips::<Brand>(
+            Blank::new(1),
+            &mut self.holdings.card,
+            clips,
+            origin,
+            &triangle,
+        );
         touch(&mut self.holdings.regions, run);
         self.holdings.places[client as usize] = place + 1;
         self.journal.push_reserved(Entry::Run { client, place });
@@ -85,7 +93,7 @@ impl Shared {
         ensures { Added self.old self.new (next_run (world_of self.old) client) }
     {
         let place = self.holdings.places[client as usize];
-        swap_clips(&mut self.holdings.card, clips);
+        swap_clips::<Brand>(Blank::new(1), &mut self.holdings.card, clips);
         self.holdings.places[client as usize] = place + 1;
         self.journal.push_reserved(Entry::Run { client, place });
     }

@@ -16,25 +16,14 @@ use std::alloc::Global;
 use std::marker::Brand;
 use std::sync::ledger::{Blank, Ledger};
 
-// The copy counts a step that nobody asks for.
-fn copy_counted<L: Ledger>(
-    blank: Blank,
-    alloc: Global,
-    clips: &Region,
-) -> Result<Region, OutOfMemory>
+/// A copy of a client's clips. The steps are counted from the blank on.
+fn copy_clips<L: Ledger>(blank: Blank, alloc: Global, clips: &Region) -> Result<Region, OutOfMemory>
     requires name { blank.name ≡ L.name }
     requires parts { blank.parts ≡ L.parts }
     requires one { L.parts ≡ 1 }
     ensures { IfOk result (λ told. told ≡ clips.now) }
 {
     clips.copy(alloc, &mut Steps::<L>::new(blank))
-}
-
-/// A client's copy of its clips.
-fn copy_clips(alloc: Global, clips: &Region) -> Result<Region, OutOfMemory>
-    ensures { IfOk result (λ told. told ≡ clips.now) }
-{
-    copy_counted::<Brand>(Blank::new(1), alloc, clips)
 }
 
 impl Shared {
@@ -51,7 +40,7 @@ impl Shared {
         let told = Told {
             stamp: board.stamp(window),
             origin: board.origin(window),
-            clips: copy_clips(alloc, board.clips(window))?,
+            clips: copy_clips::<Brand>(Blank::new(1), alloc, board.clips(window))?,
         };
         self.holdings.left = 1;
         self.journal.push_reserved(Entry::Info { client });
@@ -66,7 +55,8 @@ impl Shared {
         ensures kept { OnErr result (self.new ≡ self.old) }
     {
         let change = *self.scene.changes.get(self.holdings.made as usize);
-        change_windows(
+        change_windows::<Brand>(
+            Blank::new(1),
             alloc,
             &mut self.holdings.board,
             &mut self.holdings.card,
@@ -87,7 +77,8 @@ impl Shared {
         ensures made { OnOk result (Added self.old self.new (Gone client)) }
         ensures kept { OnErr result (self.new ≡ self.old) }
     {
-        unmap_windows(
+        unmap_windows::<Brand>(
+            Blank::new(1),
             alloc,
             &mut self.holdings.board,
             &mut self.holdings.card,

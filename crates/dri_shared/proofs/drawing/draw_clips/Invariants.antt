@@ -1,5 +1,13 @@
--- The ledger of the blank.
+-- The rectangles so far.
+use Rattle.std.proofs.Common.{ℕ, take}
+use Rattle.dri_base.specs.declared.colour.Pixel.{Pixel}
+use Rattle.dri_card.specs.Contents.{Holds, KeepSides}
+use Rattle.dri_shared.specs.Drawing.{OnlyDrawnOn, drawn_in}
 use Rattle.dri_shared.proofs.drawing.draw_clips.Given as goal
 
-abbrev pub ghosts-draw_counted : goal.ghosts-draw_counted
-ghosts-draw_counted a = record { name = a.blank.name; parts = a.blank.parts }
+abbrev pub invariant-loop-i : goal.invariant-loop-i
+invariant-loop-i g l = record {
+  held : (f : ℕ → ℕ → Pixel) → Holds l.fn.card f → Holds l.card (drawn_in l.fn.card l.origin l.triangle (take l.i l.clips) f);
+  others : OnlyDrawnOn l.fn.card l.card;
+  sides : KeepSides l.fn.card l.card;
+}

@@ -2,7 +2,7 @@
 use Rattle.dri_model.specs.Stacks.{without_owner}
 use Rattle.dri_shared.proofs.Drawn.{screen_sides}
 use Rattle.dri_shared.proofs.Painted.{restacked}
-use Rattle.dri_shared.proofs.painting.unmap_counted.Goals as goal
+use Rattle.dri_shared.proofs.painting.unmap_windows.Goals as goal
 
 pub returns-clause-ok : goal.returns-clause-ok
 returns-clause-ok g c = restacked (without_owner c.args.owner c.args.board.now.stack) c.args.board.now c.unmap_owner.new.self c.args.card.now c.paint.new.card c.in_ok-touched.touched

@@ -5,7 +5,7 @@ use Rattle.dri_card.specs.Contents.{HaveSides, Holds, IsOnCard, Shows}
 use Rattle.dri_shared.specs.Drawing.{swapped_in}
 use Rattle.dri_shared.proofs.Drawn.{holds_shown, swapped_more, shows_same, on_ok, only_shown}
 use Rattle.dri_shared.proofs.Rects.{shown_at, shown_small, same_inside, take_whole}
-use Rattle.dri_shared.proofs.drawing.swap_rects.Goals as goal
+use Rattle.dri_shared.proofs.drawing.swap_clips.Goals as goal
 
 pub clip_rect-requires : goal.clip_rect-requires
 clip_rect-requires g c = shown_small c.args.card.now.front.width c.args.card.now.front.height c.rect.result c.requires.screen.wide c.requires.screen.high

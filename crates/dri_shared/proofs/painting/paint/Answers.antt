@@ -3,7 +3,7 @@ use Rattle.std.proofs.Common.{take, ◌+◌, arith, rules, IsOk}
 use Rattle.dri_clips.specs.Paints.{filled}
 use Rattle.dri_shared.proofs.Drawn.{on_ok, only_shown, shows_same}
 use Rattle.dri_shared.proofs.Painted.{filled_next}
-use Rattle.dri_shared.proofs.painting.paint_each.Goals as goal
+use Rattle.dri_shared.proofs.painting.paint.Goals as goal
 
 pub loop-paint-preserved : goal.loop-paint-preserved
 loop-paint-preserved g c = let ok : IsOk c.paint.result = search rules in record {

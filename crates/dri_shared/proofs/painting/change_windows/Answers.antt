@@ -3,7 +3,7 @@ use Rattle.std.proofs.Common.{refl}
 use Rattle.dri_model.specs.Stacks.{changed, refusal, stack_after}
 use Rattle.dri_shared.proofs.Drawn.{screen_sides}
 use Rattle.dri_shared.proofs.Painted.{refused_same, restacked, stays, when_err, when_ok}
-use Rattle.dri_shared.proofs.painting.change_counted.Goals as goal
+use Rattle.dri_shared.proofs.painting.change_windows.Goals as goal
 
 pub returns-in-Ok-clause-ok : goal.returns-in-Ok-clause-ok
 returns-in-Ok-clause-ok g c = restacked (stack_after c.args.change.now c.args.board.now.stack) c.args.board.now c.apply.new.self c.args.card.now c.paint.new.card c.in-Ok.touched

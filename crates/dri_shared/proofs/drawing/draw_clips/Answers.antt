@@ -3,7 +3,7 @@ use Rattle.std.proofs.Common.{take, ◌+◌}
 use Rattle.dri_shared.specs.Drawing.{drawn_in}
 use Rattle.dri_shared.proofs.Drawn.{drawn_more, holds_same, only_drawn_on, screen_kept}
 use Rattle.dri_shared.proofs.Rects.{apart_at, shown_at}
-use Rattle.dri_shared.proofs.drawing.draw_rects.Goals as goal
+use Rattle.dri_shared.proofs.drawing.draw_clips.Goals as goal
 
 pub draw_rect-requires-clause-screen : goal.draw_rect-requires-clause-screen
 draw_rect-requires-clause-screen g c = screen_kept c.args.card.now c.loop-i.card c.loop-i.invariant.sides c.requires.screen
