@@ -1,9 +1,8 @@
 -- The stack after a change, by places.
 use Rattle.std.proofs.Common.{◌≡◌, ℕ, zero, suc, ◌<◌, ◌+◌, ◌-◌, length, set, take, drop, map, filter, List, [], ◌∷◌, ◌++◌, Bool, true, false, cond, arith, refl, sym, ◌∙◌, ap, subst, Option, None, Some, slice_get, is_some}
-use Rattle.std.specs.Prelude.{◌==◌, ◌&&◌, ℤ, nat_le, not, All, if◌then◌else◌, IfSome}
+use Rattle.std.specs.Prelude.{◌==◌, ◌&&◌, ℤ, not, All, if◌then◌else◌, IfSome}
 use Rattle.std.specs.List.{insert, remove}
-use Rattle.std.proofs.lemmas.Bool.{true≢false, and_parts, eqb-true, leb-true}
-use Rattle.std.proofs.lemmas.Int.{ints}
+use Rattle.std.proofs.lemmas.Bool.{true≢false, and_parts, eqb-true}
 use Rattle.std.proofs.lemmas.List.{take_all, drop_all, length-append, length-take, length-drop}
 use Rattle.std.proofs.lemmas.List.Elements.{All-map, All-append, All-filter, All-weaker}
 use Rattle.indexmap.specs.IndexMap.{move_index}
