@@ -1,0 +1,8 @@
+use Rattle.std.proofs.Common.{ap}
+use Rattle.dri_core.specs.Phases.{Ask, Old}
+use Rattle.dri_client.specs.Parts.{PartState}
+use Rattle.dri_client.proofs.Keeping.{goes_from, phase_kept}
+use Rattle.dri_client.proofs.part.ClientPart.stale.Goals as goal
+
+pub returns-clause-kept : goal.returns-clause-kept
+returns-clause-kept c = let k = c.args.self.now in phase_kept k _ Ask k.stamp (ap (λ (p : PartState). record p { phase = Ask }) c.self.view_is) (λ n more. goes_from k.phase Old k.place n c.requires.old more)

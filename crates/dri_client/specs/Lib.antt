@@ -1,0 +1,5 @@
+pub mod Activities
+pub mod Parts
+pub mod Kept
+pub mod Textures
+pub mod Steps

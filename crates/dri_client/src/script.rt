@@ -1,0 +1,42 @@
+//! What is looked up in a scene: the place of a client's script, the shape of a texture, and whether a command is the
+//! last.
+
+ghost use Rattle.std.specs.Prelude.{◌≡◌, ◌↔◌, Contains, IfSome, IsSome, Some, slice_get};
+ghost use Rattle.dri_base.specs.Ranges.{client_numbers};
+ghost use Rattle.dri_base.specs.Scenes.{script_in};
+ghost use Rattle.dri_client.specs.Steps.{is_last_of};
+ghost use Rattle.dri_client.specs.Textures.{shape_in};
+
+use dri_base::{ClientScript, TexShape, Texture};
+
+/// The place of a client's script among the scene's, where the scene has the client.
+pub fn place_of(clients: &[ClientScript], number: u32) -> Option<usize>
+    ensures there { IsSome result ↔ Contains (client_numbers clients.now) number }
+    ensures script { IfSome result (λ i. slice_get clients.now i ≡ Some (script_in clients.now number)) }
+{
+    for (place, script) in clients.iter().enumerate() {
+        if script.number == number {
+            return Some(place);
+        }
+    }
+    None
+}
+
+/// The shape of the texture with this number, where there is one.
+pub(crate) fn shape_in(textures: &[Texture], number: u32) -> Option<TexShape>
+    ensures { result ≡ shape_in textures.now number }
+{
+    for texture in textures {
+        if texture.number == number {
+            return Some(texture.shape);
+        }
+    }
+    None
+}
+
+/// Whether a place is the last command's, or comes behind it.
+pub(crate) fn is_last(script: &ClientScript, place: u32) -> bool
+    ensures { result ≡ is_last_of script.now place }
+{
+    script.commands.len() <= place as usize
+}
