@@ -3,7 +3,7 @@
 
 ghost use Rattle.std.specs.Prelude.{◌≡◌, [], ◌∷◌, take, true, false, Some, None, pos};
 ghost use Rattle.std.specs.Prelude.{◌++◌};
-ghost use Rattle.dri_base.specs.declared.journal.Entry.TheVariants.{Gone, Kernel, Leave, Stale, Info, Change, Run, Light};
+ghost use Rattle.dri_base.specs.declared.journal.Entry.TheVariants.{Gone, Kernel, Leave, Stale, Info, Change, Run, Light, Emit, Place};
 ghost use Rattle.dri_base.specs.declared.command.Command.TheVariants.{Set};
 ghost use Rattle.dri_base.specs.declared.state.Blend.TheVariants.{Alpha, Add};
 ghost use Rattle.dri_base.specs.declared.state.DepthFunc.TheVariants.{Never, Less, Equal, LessEqual, Greater, NotEqual, GreaterEqual, Always};
@@ -15,7 +15,7 @@ ghost use Rattle.dri_core.specs.ExampleParts.{rgb};
 ghost use Rattle.dri_core.specs.Decide.{is_hold_run};
 ghost use Rattle.dri_core.specs.Cores.{journal_of};
 ghost use Rattle.dri_meaning.specs.ExampleScenes.{one_triangle, two_frames, under_another, killed_first, dies, covered, beside, waiting_one, killed, one_region, cut_out, blended_twice, partly_covered, moved_about, refused_changes, allowed_changes, two_windows, shown_twice, taken_again, stopped_in_the_queue, in_depth, by_default, along_the_row, two_regions, probed, turned_probe, on_depth_24, then_less_deep, to_the_right, below};
-ghost use Rattle.dri_meaning.specs.ExampleRuns.{picture, summary, word_after_all, red, green, blue, grey, one_triangle_journal, two_frames_journal, dies_journal, covered_journal, beside_journal, waiting_one_journal, killed_journal, one_region_journal, cut_out_journal, blended_twice_journal, partly_covered_journal, seven_changes, row, refusals_after, taken_again_journal, stopped_journal, first_hold, two_regions_journal, alone, ground, third, all_three, greys, where_drawn};
+ghost use Rattle.dri_meaning.specs.ExampleRuns.{picture, summary, word_after_all, red, green, blue, grey, one_triangle_journal, two_frames_journal, dies_journal, covered_journal, beside_journal, waiting_one_journal, killed_journal, one_region_journal, cut_out_journal, blended_twice_journal, partly_covered_journal, seven_changes, row, refusals_after, taken_again_journal, stopped_journal, first_hold, first_triangle, two_regions_journal, alone, ground, third, all_three, greys, where_drawn};
 ghost use Rattle.dri_core.specs.Runs.{after, HoldRun};
 ghost use Rattle.dri_base.specs.Ranges.{InRange};
 ghost use Rattle.dri_model.specs.Stacks.{NoWindow, OutOfRange, AlreadyMapped, NotMapped};
@@ -189,8 +189,27 @@ pub fn no_hold_runs()
     ensures dies_outside { is_hold_run dies (take 8 dies_journal ++ Gone 1 ∷ []) ≡ false }
     ensures dies_twice { is_hold_run killed (Gone 1 ∷ Gone 1 ∷ []) ≡ false }
     ensures dies_in_anothers_hold { is_hold_run killed (Kernel 2 1 ∷ Gone 1 ∷ []) ≡ false }
+{}
+
+/// The same for the entries of a client in its hold, and for its light lock.
+pub fn no_holds()
+    ensures light_of_another { is_hold_run two_frames (Light 1 ∷ []) ≡ false }
+    ensures light_and_asking { is_hold_run two_frames (Kernel 1 1 ∷ Stale 1 ∷ Leave 1 ∷ Light 1 ∷ []) ≡ false }
+    ensures light_while_held { is_hold_run one_region (take 13 one_region_journal ++ Kernel 2 2 ∷ Light 1 ∷ []) ≡ false }
+    ensures stale_while_current { is_hold_run two_frames (first_hold 1 1 ++ Stale 1 ∷ []) ≡ false }
     ensures runs_another { is_hold_run two_frames (first_hold 1 1 ++ Run 1 2 ∷ []) ≡ false }
     ensures runs_on { is_hold_run two_frames (first_hold 1 1 ++ Run 1 1 ∷ Run 1 2 ∷ Run 1 3 ∷ []) ≡ false }
+    ensures runs_its_death { is_hold_run dies (take 8 dies_journal ++ Light 1 ∷ Run 1 3 ∷ []) ≡ false }
+    ensures draws_unemitted { is_hold_run waiting_one (first_hold 1 1 ++ Run 1 1 ∷ Run 1 2 ∷ []) ≡ false }
+    ensures emits_for_a_clear { is_hold_run waiting_one (first_hold 1 1 ++ Emit 1 127 ∷ []) ≡ false }
+    ensures emits_some { is_hold_run waiting_one (first_hold 1 1 ++ Run 1 1 ∷ Emit 1 63 ∷ []) ≡ false }
+    ensures emits_nothing { is_hold_run waiting_one (first_triangle ++ Emit 1 0 ∷ []) ≡ false }
+    ensures emits_unplaced { is_hold_run one_region (take 8 one_region_journal ++ Emit 1 127 ∷ []) ≡ false }
+    ensures places_for_a_clear { is_hold_run two_regions (take 7 two_regions_journal ++ Place 1 1 0 1 ∷ []) ≡ false }
+    ensures places_another { is_hold_run two_regions (take 8 two_regions_journal ++ Place 1 2 0 1 ∷ []) ≡ false }
+    ensures places_too_many { is_hold_run two_regions (take 8 two_regions_journal ++ Place 1 1 0 2 ∷ []) ≡ false }
+    ensures places_elsewhere { is_hold_run two_regions (take 8 two_regions_journal ++ Place 1 1 1 1 ∷ []) ≡ false }
+    ensures places_again { is_hold_run two_regions (take 9 two_regions_journal ++ Place 1 1 1 1 ∷ []) ≡ false }
 {}
 
 /// Depths are compared and written where they are set, and neither in the default state, whose triangles are flat.
