@@ -10,7 +10,8 @@ use Rattle.dri_base.specs.declared.journal.Entry.{Entry}
 use Rattle.dri_base.specs.declared.journal.Entry.TheVariants as Entry_is
 use Rattle.dri_base.specs.declared.scene.Scene.{Scene}
 use Rattle.dri_base.specs.declared.texture.Texture.{Texture}
-use Rattle.dri_base.proofs.RangeLemmas.{region_size_above, textures_in_range, well_formed}
+use Rattle.dri_base.proofs.RangeLemmas.{textures_in_range, well_formed}
+use Rattle.dri_base.proofs.RegionSizes.{region_size_above}
 use Rattle.dri_card.specs.Loading.{IsImageWithin, image_bytes}
 use Rattle.dri_core.specs.Effects.{after_leave, placed_by, run_at, run_by, taken_in, told}
 use Rattle.dri_core.specs.EntryTable.{LegalEntry, after_entry}

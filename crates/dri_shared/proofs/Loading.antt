@@ -14,7 +14,8 @@ use Rattle.dri_base.specs.declared.texture.BoundTexture.{BoundTexture}
 use Rattle.dri_base.specs.declared.texture.TexFormat.{TexFormat}
 use Rattle.dri_base.specs.declared.texture.TexFormat.TheVariants.{L8, Rgb565}
 use Rattle.dri_base.specs.declared.texture.Texture.{Texture}
-use Rattle.dri_base.proofs.RangeLemmas.{region_size_above, region_size_within, textures_in_range, well_formed}
+use Rattle.dri_base.proofs.RangeLemmas.{textures_in_range, well_formed}
+use Rattle.dri_base.proofs.RegionSizes.{region_size_above, region_size_within}
 use Rattle.dri_card.specs.Contents.{Contents, memory_of}
 use Rattle.dri_card.specs.Loading.{CanLoad, IsImageWithin}
 use Rattle.dri_core.specs.Effects.{placed_by, run_at}

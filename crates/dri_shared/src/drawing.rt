@@ -49,8 +49,8 @@ pub(crate) fn clear_clips<L: Ledger>(
     let mut steps = Steps::<L>::new(blank);
     clips.arranged();
     for n in 0..clips.len() {
-        let rect = clip_rect(&clips.rect(n));
-        card.clear(rect, colour, depth, &mut steps).unwrap();
+        card.clear(clip_rect(&clips.rect(n)), colour, depth, &mut steps)
+            .unwrap();
     }
 }
 

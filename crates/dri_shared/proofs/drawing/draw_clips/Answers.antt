@@ -1,7 +1,7 @@
 -- One rectangle more, and all.
-use Rattle.std.proofs.Common.{take, ◌+◌}
+use Rattle.std.proofs.Common.{take, ◌+◌, arith}
 use Rattle.dri_shared.specs.Drawing.{drawn_in}
-use Rattle.dri_shared.proofs.Drawn.{drawn_more, holds_same, only_drawn_on, screen_kept}
+use Rattle.dri_shared.proofs.Drawn.{drawn_more, holds_same, on_ok, only_drawn_on, screen_kept}
 use Rattle.dri_shared.proofs.Rects.{apart_at, shown_at}
 use Rattle.dri_shared.proofs.drawing.draw_clips.Goals as goal
 
@@ -13,6 +13,9 @@ draw_rect-requires-clause-shown g c =
     let s = c.loop-i.invariant.sides c.args.card.now.front.width c.args.card.now.front.height c.requires.screen.sides in
     rw (s.front_width, s.front_height)
     (shown_at c.args.card.now.front.width c.args.card.now.front.height c.args.clips.now c.loop-i.i c.rect.result c.arranged.ensures.proper c.requires.within c.rect.ensures)
+
+pub draw_rect-requires-clause-triangle : goal.draw_rect-requires-clause-triangle
+draw_rect-requires-clause-triangle g c = on_ok c.push_triangle.result _ (c.push_triangle.ensures.room.1 (rw c.new-buffer.ensures (omega arith))) c.push_triangle.ensures.held
 
 pub loop-i-preserved : goal.loop-i-preserved
 loop-i-preserved g c = record {

@@ -5,7 +5,7 @@ use Rattle.dri_base.specs.Scenes.{bytes_of, regions_needed, textures_of}
 use Rattle.dri_base.specs.Texels.{texture_in}
 use Rattle.dri_base.specs.declared.journal.Entry.TheVariants.{Place}
 use Rattle.dri_base.specs.declared.scene.Scene.{Scene}
-use Rattle.dri_base.proofs.RangeLemmas.{region_size_above}
+use Rattle.dri_base.proofs.RegionSizes.{region_size_above}
 use Rattle.dri_card.specs.Contents.{memory_of}
 use Rattle.dri_core.specs.Effects.{run_at}
 use Rattle.dri_core.specs.EntryTable.{LegalEntry}
