@@ -116,12 +116,7 @@ freed_near n h count = by_test (classes_for n h count == 0)
 pub drawn_near : (h : Heap) (run : Option Heaps.Run) (command : Option Command) → (heap_after h run command).global ≤ h.global + 1
 drawn_near h (Some run) (Some (Command_is.Triangle t)) = omega arith
 drawn_near h None (Some (Command_is.Triangle t)) = omega arith
-drawn_near h run (Some (Command_is.Set setting)) = omega arith
-drawn_near h run (Some (Command_is.Clear colour depth)) = omega arith
-drawn_near h run (Some Command_is.Swap) = omega arith
-drawn_near h run (Some Command_is.Yield) = omega arith
-drawn_near h run (Some Command_is.Die) = omega arith
-drawn_near h run None = omega arith
+drawn_near h run _ = omega arith
 
 abbrev pub IsAgeBounded : Scene → World → Type 0
 IsAgeBounded s w = w.heap.global ≤ ages_part s w

@@ -51,16 +51,8 @@ aged_opened s c h e = true≢false (sym h ∙ first_young (commands_of s c))
 ran_young : (command : Option Command) (last : Bool) → is_aged (phase_after command last) ≡ false
 ran_young (Some Command_is.Swap) last = refl
 ran_young (Some Command_is.Yield) last = refl
-ran_young (Some (Command_is.Set setting)) true = refl
-ran_young (Some (Command_is.Clear colour depth)) true = refl
-ran_young (Some (Command_is.Triangle t)) true = refl
-ran_young (Some Command_is.Die) true = refl
-ran_young None true = refl
-ran_young (Some (Command_is.Set setting)) false = refl
-ran_young (Some (Command_is.Clear colour depth)) false = refl
-ran_young (Some (Command_is.Triangle t)) false = refl
-ran_young (Some Command_is.Die) false = refl
-ran_young None false = refl
+ran_young _ true = refl
+ran_young _ false = refl
 
 left_aged : (p : Phase) (last : Bool) → (p ≡ Over) ⊎ (p ≡ Ask) → is_aged (left_from p last) ≡ true → is_aged p ≡ true
 left_aged p last (inr ask) e = rw ask refl

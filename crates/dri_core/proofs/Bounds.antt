@@ -27,7 +27,7 @@ use Rattle.dri_core.proofs.Endings.{has_command}
 use Rattle.dri_core.proofs.Lively.{Lively, lively_opened, lively_step}
 use Rattle.dri_core.proofs.Parts.{put_here, put_keeps}
 use Rattle.dri_core.proofs.Sound.{Sound, sound_kept, sound_opened, sound_after}
-use Rattle.dri_core.proofs.WorkParts.{sum_stays, sum_falls, listed}
+use Rattle.dri_core.proofs.WorkParts.{one_bound, sum_stays, sum_falls, listed}
 use Rattle.dri_core.proofs.AgeBounds.{age_bonus, age_part, bonus_small, ages_part, IsAgeBounded, age_step}
 
 -- who has died
@@ -43,10 +43,6 @@ is_dead Ended = false
 
 abbrev pub deaths : Scene → World → ℕ
 deaths s w = sum_by (λ c. one_if (is_dead (w.client c).phase)) (client_numbers s.clients)
-
-pub one_small : (b : Bool) → one_if b ≤ 1
-one_small true = omega arith
-one_small false = omega arith
 
 pub how_many_most : (p : ℕ → Bool) (n : ℕ) → how_many p n ≤ n
 how_many_most p zero = omega arith
@@ -73,7 +69,7 @@ dead_stays s w (Run c i) legal d = put_keeps (StaysDead w) w.client c (run_by s 
 dead_stays s w (Leave c) legal d = put_keeps (StaysDead w) w.client c (record (w.client c) { phase = after_leave s c (w.client c) }) d (alive_less (w.client c).phase (after_leave s c (w.client c)) (leave_alive (w.client c).phase legal)) (omega arith)
 dead_stays s w (Info c) legal d = put_keeps (StaysDead w) w.client c (told s w c) d (alive_less (w.client c).phase Out (rw legal.0 refl)) (omega arith)
 dead_stays s w (Change i) legal d = omega arith
-dead_stays s w (Gone c) legal d = put_keeps (StaysDead w) w.client c (record (w.client c) { phase = Dead }) d (one_small (is_dead (w.client c).phase)) (omega arith)
+dead_stays s w (Gone c) legal d = put_keeps (StaysDead w) w.client c (record (w.client c) { phase = Dead }) d (one_bound (is_dead (w.client c).phase)) (omega arith)
 
 -- who may be gone isn't done
 pub gone_live : (s : Scene) (w : World) (c : ℕ) → LegalEntry s w (Gone c) → is_done (w.client c).phase ≡ false
@@ -212,7 +208,7 @@ age_bounded s journal good run = omega (arith, b.ages, most, thrice (λ c. lengt
 
 pub deaths_most : (f : ℕ → Bool) (ns : List ℕ) → sum_by (λ c. one_if (f c)) ns ≤ length ns
 deaths_most f [] = omega arith
-deaths_most f (n ∷ ns) = rw (sum_by-cons (λ c. one_if (f c))) (omega (arith, one_small (f n), deaths_most f ns))
+deaths_most f (n ∷ ns) = rw (sum_by-cons (λ c. one_if (f c))) (omega (arith, one_bound (f n), deaths_most f ns))
 
 -- the last stamp is at most one and 65 for each change and each client
 pub counter_bounded : (s : Scene) (journal : List Entry) → InRange s → HoldRun s journal → (after s journal).counter ≤ 1 + 65 * (length s.changes + length s.clients)

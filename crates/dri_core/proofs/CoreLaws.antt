@@ -3,7 +3,7 @@ use Rattle.std.proofs.Common.{◌≡◌, ◌≢◌, ℕ, List, [], ◌∷◌, �
 use Rattle.dri_base.specs.declared.journal.Entry.{Entry}
 use Rattle.dri_base.specs.declared.journal.Entry.TheVariants as Entry_is
 use Rattle.dri_base.specs.declared.journal.Event.{Event}
-use Rattle.dri_base.specs.declared.journal.Event.TheVariants.{Light, Kernel, Queue, Mark, Stale, Emit, Place, Run, LeaveLight, LeaveKernel, Info, Change, Stop, Gone}
+use Rattle.dri_base.specs.declared.journal.Event.TheVariants.{Light, Kernel, Queue, Mark, Run, Stop, Gone}
 use Rattle.dri_base.specs.declared.scene.Scene.{Scene}
 use Rattle.dri_base.proofs.RangeLemmas.{IsWellFormed}
 use Rattle.dri_base.specs.Scenes.{window_of, command_at}
@@ -62,15 +62,9 @@ noswap_event s c (Light d) es differs more = (λ j swaps same. grind arith, more
 noswap_event s c (Kernel d found) es differs more = (λ j swaps same. grind arith, more)
 noswap_event s c (Queue a) es differs more = more
 noswap_event s c (Mark a) es differs more = more
-noswap_event s c (Stale d) es differs more = (λ j swaps same. grind arith, more)
-noswap_event s c (Emit d groups) es differs more = (λ j swaps same. grind arith, more)
-noswap_event s c (Place d t first count) es differs more = (λ j swaps same. grind arith, more)
-noswap_event s c (LeaveLight d) es differs more = (λ j swaps same. grind arith, more)
-noswap_event s c (LeaveKernel d) es differs more = (λ j swaps same. grind arith, more)
-noswap_event s c (Info d) es differs more = (λ j swaps same. grind arith, more)
-noswap_event s c (Change i) es differs more = (λ j swaps same. grind arith, more)
 noswap_event s c (Stop d) es differs more = more
 noswap_event s c (Gone d) es differs more = (λ j swaps same. grind arith, more)
+noswap_event s c _ es differs more = (λ j swaps same. grind arith, more)
 
 noswap_journal : (s : Scene) (c : ℕ) (es : List Event) → NoSwapIn s c es → NoSwap s c (journal_of es)
 noswap_journal s c [] none = tt

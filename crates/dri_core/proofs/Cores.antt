@@ -11,7 +11,7 @@ use Rattle.dri_base.proofs.RangeLemmas.{IsWellFormed}
 use Rattle.dri_base.specs.Scenes.{is_named}
 use Rattle.dri_core.specs.Worlds.{World}
 use Rattle.dri_core.specs.EntryTable.{LegalEntry}
-use Rattle.dri_core.specs.Phases.{is_holding, is_done}
+use Rattle.dri_core.specs.Phases.{is_holding, is_done, wants_in}
 use Rattle.dri_core.specs.Effects.{run_by}
 use Rattle.dri_core.specs.Runs.{after, HoldRun, LegalEntries, after_entries}
 use Rattle.dri_core.specs.Cores.{Core, entry_of, with_entry, journal_of, opening_core}
@@ -29,8 +29,11 @@ pub record Tied (s : Scene) (k : Core) : Type 0 where
   pub left : k.word.held ≡ false → (k.word.context ≡ 0) ⊎ (k.word.context ≡ k.world.left)
   pub dying : (c : ℕ) → k.dying c ≡ true → (is_named s c ≡ true) × (is_done (k.world.client c).phase ≡ false) × (is_holding (k.world.client c).phase ≡ false)
 
-holding_live : (p : Phase) → is_holding p ≡ true → is_done p ≡ false
+pub holding_live : (p : Phase) → is_holding p ≡ true → is_done p ≡ false
 holding_live p h = grind arith
+
+pub wanting_live : (p : Phase) → wants_in p ≡ true → is_done p ≡ false
+wanting_live p h = grind arith
 
 some_none : {o : Option ℕ} {d : ℕ} → o ≡ Some d → o ≡ None → ⊥
 some_none a b = grind arith

@@ -1,12 +1,12 @@
 -- The test says what the table says.
-use Rattle.std.proofs.Common.{◌≡◌, ℕ, Bool, true, false, Option, Some, None, List, [], ◌∷◌, arith, refl, ap, sym}
+use Rattle.std.proofs.Common.{◌≡◌, ℕ, Bool, true, Option, Some, None, List, [], ◌∷◌, arith, refl, ap, sym}
 use Rattle.std.specs.Prelude.{◌==◌, ◌&&◌, not, is_none}
 use Rattle.std.proofs.lemmas.Bool.Decides.{nat_tests}
-use Rattle.std.proofs.lemmas.Bool.{and_parts, true≢false}
+use Rattle.std.proofs.lemmas.Bool.{and_parts, eqb-true, not-true, true≢false}
 use Rattle.dri_base.specs.declared.journal.Entry.{Entry}
 use Rattle.dri_base.specs.declared.journal.Entry.TheVariants.{Light, Kernel, Stale, Emit, Place, Run, Leave, Info, Change, Gone}
 use Rattle.dri_base.specs.declared.command.Command.{Command}
-use Rattle.dri_base.specs.declared.command.Command.TheVariants.{Set, Clear, Triangle, Swap, Yield, Die}
+use Rattle.dri_base.specs.declared.command.Command.TheVariants.{Die}
 use Rattle.dri_core.specs.Phases.{Phase}
 use Rattle.dri_core.specs.Phases.{In}
 use Rattle.dri_base.specs.declared.scene.Scene.{Scene}
@@ -24,17 +24,9 @@ use Rattle.dri_core.specs.Decide.{is_die, is_legal_entry, are_legal_entries}
 phase_same : (a b : Phase) → same_phase a b ≡ true → a ≡ b
 phase_same a b e = grind (arith, nat_tests)
 
-phase_is : (a : Phase) → same_phase a a ≡ true
-phase_is a = grind (arith, nat_tests)
-
 die_is : (o : Option Command) → is_die o ≡ true → o ≡ Some Die
 die_is (Some Die) e = refl
-die_is (Some (Set setting)) e = absurd (true≢false (sym e))
-die_is (Some (Clear colour depth)) e = absurd (true≢false (sym e))
-die_is (Some (Triangle t)) e = absurd (true≢false (sym e))
-die_is (Some Swap) e = absurd (true≢false (sym e))
-die_is (Some Yield) e = absurd (true≢false (sym e))
-die_is None e = absurd (true≢false (sym e))
+die_is _ e = absurd (true≢false (sym e))
 
 number_is : (o : Option ℕ) (t : ℕ) → same_number o (Some t) ≡ true → o ≡ Some t
 number_is None t e = absurd (true≢false (sym e))
@@ -55,25 +47,18 @@ five a b c d e h =
     let t = and_parts d e r.1 in
     (p.0, q.0, r.0, t.0, t.1)
 
-number_eq : (a b : ℕ) → (a == b) ≡ true → a ≡ b
-number_eq a b e = grind (arith, nat_tests)
-
-not_true : (b : Bool) → not b ≡ true → b ≡ false
-not_true false e = refl
-not_true true e = absurd (true≢false (sym e))
-
 pub legal_is : (s : Scene) (w : World) (e : Entry) → is_legal_entry s w e ≡ true → LegalEntry s w e
 legal_is s w (Light c) e = grind (arith, nat_tests)
 legal_is s w (Kernel c found) e = grind (arith, nat_tests)
 legal_is s w (Stale c) e = phase_same _ _ e
 legal_is s w (Emit c groups) e =
     let h = five (same_phase (w.client c).phase In) (is_triangle (command_at s c (w.client c).place)) (is_ready (w.client c)) (groups == bits (w.client c).dirty) (not (is_empty (w.client c).dirty)) e in
-    ((phase_same _ _ h.0, h.1), h.2, number_eq groups (bits (w.client c).dirty) h.3, not_true (is_empty (w.client c).dirty) h.4)
+    ((phase_same _ _ h.0, h.1), h.2, eqb-true groups (bits (w.client c).dirty) h.3, not-true (is_empty (w.client c).dirty) h.4)
 legal_is s w (Place c t first count) e =
     let h = five (same_phase (w.client c).phase In) (is_triangle (command_at s c (w.client c).place)) (same_number (textured_with (w.client c).state) (Some t)) (is_none ((w.client c).placed t))
     ((count == regions_needed s c t) && is_place_for s.regions w.heap count first) e in
     let q = and_parts (count == regions_needed s c t) (is_place_for s.regions w.heap count first) h.4 in
-    ((phase_same _ _ h.0, h.1), number_is (textured_with (w.client c).state) t h.2, none_is ((w.client c).placed t) h.3, number_eq count (regions_needed s c t) q.0, q.1)
+    ((phase_same _ _ h.0, h.1), number_is (textured_with (w.client c).state) t h.2, none_is ((w.client c).placed t) h.3, eqb-true count (regions_needed s c t) q.0, q.1)
 legal_is s w (Run c i) e = grind (arith, nat_tests)
 legal_is s w (Leave c) e = grind (arith, nat_tests)
 legal_is s w (Info c) e = grind (arith, nat_tests)

@@ -13,7 +13,7 @@ use Rattle.dri_base.specs.declared.state.TexMode.TheVariants as Mode_is
 use Rattle.dri_base.specs.declared.state.Wrap.{Wrap}
 use Rattle.dri_base.specs.declared.state.Wrap.TheVariants.{Repeat, Clamp}
 use Rattle.dri_base.specs.declared.command.Command.{Command}
-use Rattle.dri_base.specs.declared.command.Command.TheVariants.{Set, Clear, Triangle, Swap, Yield, Die}
+use Rattle.dri_base.specs.declared.command.Command.TheVariants.{Triangle}
 use Rattle.dri_base.specs.declared.journal.Entry.{Entry}
 use Rattle.dri_base.specs.declared.journal.Entry.TheVariants.{Run}
 use Rattle.dri_base.specs.declared.shape.Triangle.{Triangle as Shape}
@@ -148,12 +148,7 @@ card_same s w c i t x y under good sound legal can =
 drawn_same : (a b : Rules) (f g : Option Image) (ready : Bool) (command : Option Command) (x y : ℤ) (under : Pixel) → can_run ready command ≡ true →
     (ready ≡ true → (t : Shape) → fragment a f t x y under ≡ fragment b g t x y under) → drawn_by a f command x y under ≡ drawn_by b g command x y under
 drawn_same a b f g ready (Some (Triangle t)) x y under can same = same can t
-drawn_same a b f g ready (Some (Clear colour depth)) x y under can same = refl
-drawn_same a b f g ready (Some (Set setting)) x y under can same = refl
-drawn_same a b f g ready (Some Swap) x y under can same = refl
-drawn_same a b f g ready (Some Yield) x y under can same = refl
-drawn_same a b f g ready (Some Die) x y under can same = refl
-drawn_same a b f g ready None x y under can same = refl
+drawn_same a b f g ready _ x y under can same = refl
 
 -- after a run, at each pixel of the client's clips
 pub ran_back : (s : Scene) (w : World) (c i x y : ℕ) → IsWellFormed s → Sound s w → LegalEntry s w (Run c i) → clips_in s w c x y ≡ true →

@@ -20,12 +20,11 @@ use Rattle.dri_core.specs.Phases.{is_holding, is_done}
 use Rattle.dri_core.specs.Runs.{IsWholeWorld, Whole}
 use Rattle.dri_core.specs.Cores.{Core, opening_core, journal_of, is_next, is_queued}
 use Rattle.dri_core.specs.CoreRuns.{after_events, IsRun}
-use Rattle.dri_core.specs.Phases.{wants_in}
 use Rattle.dri_core.specs.Turns.{turn, turn_of, phase_turn, acting_turn, triangle_turn, emit_turn, or_waiting, server_turn, all_pass, round}
 use Rattle.dri_model.specs.Groups.{is_empty, bits}
 use Rattle.dri_model.specs.Heaps as Heaps
 use Rattle.dri_model.specs.Heaps.{lowest_place, classes_for}
-use Rattle.dri_core.proofs.Cores.{journal_after, journal_is_hold_run}
+use Rattle.dri_core.proofs.Cores.{holding_live, journal_after, journal_is_hold_run, wanting_live}
 use Rattle.dri_core.proofs.TurnEvents.{Known, known_after}
 use Rattle.dri_core.proofs.Lively.{Lively, lively_after}
 
@@ -67,11 +66,6 @@ goes s k a e free next = rw (free, next) refl
 
 pub acts : (s : Scene) (w : World) (c : ℕ) (command : Option Command) → (command ≡ None → ⊥) → (e : Event) × (acting_turn s w c command ≡ Some e)
 acts s w c None some = absurd (some refl)
-acts s w c (Some Command_is.Die) some = (_, refl)
-acts s w c (Some (Command_is.Set setting)) some = (_, refl)
-acts s w c (Some (Command_is.Clear colour depth)) some = (_, refl)
-acts s w c (Some Command_is.Swap) some = (_, refl)
-acts s w c (Some Command_is.Yield) some = (_, refl)
 acts s w c (Some (Command_is.Triangle t)) some = triangle (textured_with (w.client c).state)
   where
     emits : (b : Bool) → is_empty (w.client c).dirty ≡ b → (e : Event) × (emit_turn (w.client c) c ≡ Some e)
@@ -86,6 +80,7 @@ acts s w c (Some (Command_is.Triangle t)) some = triangle (textured_with (w.clie
         by_place None h =
             (Place c u (lowest_place s.regions w.heap (regions_needed s c u) (classes_for s.regions w.heap (regions_needed s c u))) (regions_needed s c u), rw h refl)
         by_place (Some r) h = let x = emits (is_empty (w.client c).dirty) refl in (x.0, rw h x.1)
+acts s w c _ some = (_, refl)
 
 pub there : (cs : List Command) (n : ℕ) → n < length cs → slice_get cs n ≡ None → ⊥
 there [] n l e = absurd (omega arith)
@@ -147,9 +142,6 @@ whole_at s k good known l pass = record {
 
     holder_moves : (c : ℕ) → k.world.holder ≡ Some c → ⊥
     holder_moves c h = moves s k c known l (inl (l.held c h)) (stuck c (holding_live _ (l.held c h)))
-      where
-        holding_live : (p : Phase) → is_holding p ≡ true → is_done p ≡ false
-        holding_live p h = grind arith
 
     unheld : k.world.holder ≡ None
     unheld = by_holder k.world.holder refl
@@ -182,11 +174,8 @@ whole_at s k good known l pass = record {
         inside : is_queued (suc c) k.queue ≡ true
         inside = rw e (rw (same (suc c)) refl)
 
-        wanting : (p : Phase) → wants_in p ≡ true → is_done p ≡ false
-        wanting p h = grind arith
-
         live : is_done (k.world.client (suc c)).phase ≡ false
-        live = elim (known.queued.wants (suc c) (omega arith) inside) [ inl st ↦ (known.tied.dying (suc c) st).1 | inr w ↦ wanting _ w ]
+        live = elim (known.queued.wants (suc c) (omega arith) inside) [ inl st ↦ (known.tied.dying (suc c) st).1 | inr w ↦ wanting_live _ w ]
 
     empty_queue : k.queue ≡ []
     empty_queue = none_waits k.queue refl

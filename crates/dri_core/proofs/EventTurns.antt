@@ -1,7 +1,7 @@
 -- A legal event is its actor's turn.
 use Rattle.std.proofs.Common.{◌≡◌, ℕ, suc, List, [], ◌∷◌, true, false, Option, Some, None, arith, refl, sym, ap, ◌∙◌, inl, inr, subst, rules}
 use Rattle.std.specs.Prelude.{◌==◌, ◌⊎◌, is_none, is_some}
-use Rattle.std.proofs.lemmas.Bool.{true≢false, false_from_ne_true, and_parts}
+use Rattle.std.proofs.lemmas.Bool.{true≢false, false_from_ne_true, and_parts, eqb-true}
 use Rattle.std.proofs.lemmas.Bool.Decides.{nat_tests}
 use Rattle.dri_base.specs.declared.journal.Event.TheVariants.{Light, Kernel, Queue, Mark, Stale, Emit, Place, Run, LeaveLight, LeaveKernel, Info, Change, Gone}
 use Rattle.dri_core.specs.Phases.{Phase}
@@ -41,12 +41,7 @@ in_turn s k c q phase = let live = live_of s k c q (rw phase refl) in rw (live, 
 
 pub at_triangle : (s : Scene) (w : World) (c : ℕ) (command : Option Command) → is_triangle command ≡ true → acting_turn s w c command ≡ triangle_turn s w c (textured_with (w.client c).state)
 at_triangle s w c (Some (Command_is.Triangle t)) is = refl
-at_triangle s w c (Some (Command_is.Set setting)) is = absurd (true≢false (sym is))
-at_triangle s w c (Some (Command_is.Clear colour depth)) is = absurd (true≢false (sym is))
-at_triangle s w c (Some Command_is.Swap) is = absurd (true≢false (sym is))
-at_triangle s w c (Some Command_is.Yield) is = absurd (true≢false (sym is))
-at_triangle s w c (Some Command_is.Die) is = absurd (true≢false (sym is))
-at_triangle s w c None is = absurd (true≢false (sym is))
+at_triangle s w c _ is = absurd (true≢false (sym is))
 
 pub some_there : (o : Option Heaps.Run) → is_some o ≡ true → is_none o ≡ false
 some_there None e = absurd (true≢false (sym e))
@@ -66,21 +61,15 @@ place_is_turn s k c t first count q possible =
     ∙ rw possible.2 (ap (λ n. Some (Place c t (lowest_place s.regions k.world.heap n (classes_for s.regions k.world.heap n)) n)) (sym possible.3) ∙ ap (λ f. Some (Place c t f count)) (sym at_lowest))
   where
     at_lowest : first ≡ lowest_place s.regions k.world.heap count (classes_for s.regions k.world.heap count)
-    at_lowest = same _ _ (and_parts (first == lowest_place s.regions k.world.heap count (classes_for s.regions k.world.heap count)) _ possible.4).0
-      where
-        same : (a b : ℕ) → (a == b) ≡ true → a ≡ b
-        same a b e = grind (arith, nat_tests)
+    at_lowest = eqb-true _ _ (and_parts (first == lowest_place s.regions k.world.heap count (classes_for s.regions k.world.heap count)) _ possible.4).0
 
 pub run_by_command : (s : Scene) (w : World) (c i : ℕ) (command : Option Command) → i ≡ (w.client c).place → can_run (can_draw (w.client c)) command ≡ true → acting_turn s w c command ≡ Some (Run c i)
 run_by_command s w c i (Some (Command_is.Triangle t)) e can =
     let h = and_parts (is_empty (w.client c).dirty) (is_ready (w.client c)) can in
     ready_turn s w c (textured_with (w.client c).state) h.1 ∙ rw h.0 (ap (λ n. Some (Run c n)) (sym e))
-run_by_command s w c i (Some (Command_is.Set setting)) e can = ap (λ n. Some (Run c n)) (sym e)
-run_by_command s w c i (Some (Command_is.Clear colour depth)) e can = ap (λ n. Some (Run c n)) (sym e)
-run_by_command s w c i (Some Command_is.Swap) e can = ap (λ n. Some (Run c n)) (sym e)
-run_by_command s w c i (Some Command_is.Yield) e can = ap (λ n. Some (Run c n)) (sym e)
 run_by_command s w c i (Some Command_is.Die) e can = absurd (true≢false (sym can))
 run_by_command s w c i None e can = absurd (true≢false (sym can))
+run_by_command s w c i _ e can = ap (λ n. Some (Run c n)) (sym e)
 
 pub run_turn : (s : Scene) (k : Core) (c i : ℕ) → Queued s k → LegalEvent s k (Run c i) → turn_of s k c ≡ Some (Run c i)
 run_turn s k c i q possible =

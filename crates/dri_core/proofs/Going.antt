@@ -10,7 +10,7 @@ use Rattle.dri_core.specs.CoreRuns.{after_events, LegalEvents, IsRun}
 use Rattle.dri_core.specs.EventTable.{LegalEvent, after_event}
 use Rattle.dri_core.specs.Measures.{TurnsLeaveLess}
 use Rattle.dri_base.specs.declared.command.Command.{Command}
-use Rattle.dri_base.specs.declared.command.Command.TheVariants.{Set, Clear, Triangle, Swap, Yield, Die}
+use Rattle.dri_base.specs.declared.command.Command.TheVariants.{Triangle}
 use Rattle.dri_core.specs.Phases.{Phase, Out, Old, In, Over, Ask, Asking, Ended, Dead}
 use Rattle.dri_core.specs.Privates.{textured_with}
 use Rattle.dri_model.specs.Groups.{is_empty, bits}
@@ -71,12 +71,6 @@ or_waits_on k a e h = by_test (not k.word.held && is_next a k.queue)
     by_test false = waits_on k a
 
 pub acts_on : (s : Scene) (w : World) (c : ℕ) (command : Option Command) → is_stop (acting_turn s w c command) ≡ false
-acts_on s w c None = refl
-acts_on s w c (Some Die) = refl
-acts_on s w c (Some (Set setting)) = refl
-acts_on s w c (Some (Clear colour depth)) = refl
-acts_on s w c (Some Swap) = refl
-acts_on s w c (Some Yield) = refl
 acts_on s w c (Some (Triangle t)) = by_texture (textured_with (w.client c).state)
   where
     emits : is_stop (emit_turn (w.client c) c) ≡ false
@@ -93,6 +87,7 @@ acts_on s w c (Some (Triangle t)) = by_texture (textured_with (w.client c).state
         by_run : (o : Option Heaps.Run) → (w.client c).placed u ≡ o → is_stop (triangle_turn s w c (Some u)) ≡ false
         by_run None h = rw h refl
         by_run (Some r) h = rw h emits
+acts_on s w c _ = refl
 
 pub leaves_on : (k : Core) (c : ℕ) → is_stop (if k.word.contended then Some (LeaveKernel c) else Some (LeaveLight c)) ≡ false
 leaves_on k c = by_mark k.word.contended

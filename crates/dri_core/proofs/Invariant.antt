@@ -1,5 +1,5 @@
 -- The central invariant.
-use Rattle.std.proofs.Common.{◌≡◌, ◌<◌, ◌≤◌, ◌+◌, ℕ, zero, suc, List, [], ◌∷◌, Bool, true, false, Some, None, arith, refl}
+use Rattle.std.proofs.Common.{◌≡◌, ◌<◌, ◌≤◌, ◌+◌, ℕ, zero, suc, List, [], ◌∷◌, Bool, true, false, Option, Some, None, arith, refl}
 use Rattle.std.specs.Prelude.{slice_get, take, pred}
 use Rattle.dri_core.specs.Phases.{Phase}
 use Rattle.dri_base.specs.declared.command.Command.{Command}
@@ -90,3 +90,7 @@ state_on cs (suc n) l = let e : pred (suc n + 1) ≡ suc n = omega arith in rw e
 
 pub acting_holds : (p : Phase) → is_acting p ≡ true → is_holding p ≡ true
 acting_holds p h = grind arith
+
+-- there is one holder
+pub one_holder : {holder : Option ℕ} {c d : ℕ} → holder ≡ Some c → holder ≡ Some d → d ≡ c
+one_holder a b = grind arith

@@ -1,13 +1,13 @@
 -- What follows from the central invariant.
-use Rattle.std.proofs.Common.{◌≡◌, ◌≢◌, ℕ, suc, List, [], ◌∷◌, ◌++◌, true, false, Option, Some, None, arith, refl, ◌∙◌, inl, inr}
+use Rattle.std.proofs.Common.{◌≡◌, ◌≢◌, ℕ, suc, List, [], ◌∷◌, ◌++◌, true, false, Option, Some, arith, refl, ◌∙◌, inl, inr}
 use Rattle.std.specs.List.{All}
 use Rattle.std.proofs.lemmas.List.{take_more}
 use Rattle.std.proofs.Common.{take, get_or, length, subst, ◌<◌, ◌+◌, sym}
 use Rattle.std.proofs.lemmas.Bool.Decides.{nat_tests}
 use Rattle.dri_base.specs.declared.journal.Entry.{Entry}
 use Rattle.dri_base.specs.declared.command.Command.{Command}
-use Rattle.dri_base.specs.declared.command.Command.TheVariants.{Set, Clear, Triangle, Swap, Yield, Die}
-use Rattle.dri_base.specs.declared.journal.Entry.TheVariants.{Light, Kernel, Stale, Emit, Place, Leave, Info, Change, Run, Gone}
+use Rattle.dri_base.specs.declared.command.Command.TheVariants.{Swap}
+use Rattle.dri_base.specs.declared.journal.Entry.TheVariants.{Change, Run}
 use Rattle.dri_base.specs.declared.scene.Scene.{Scene}
 use Rattle.dri_base.proofs.RangeLemmas.{IsWellFormed}
 use Rattle.dri_base.specs.Scenes.{window_of, command_at}
@@ -78,12 +78,7 @@ same_outside s w c i copy = record { front = λ x y o. front (command_at s c i) 
   where
     front : (command : Option Command) (x y : ℕ) → (w.client c).copy x y ≡ false → front_after w (w.client c).copy command x y ≡ w.front x y
     front (Some Swap) x y o = rw o refl
-    front (Some (Clear colour depth)) x y o = refl
-    front (Some (Set setting)) x y o = refl
-    front (Some (Triangle t)) x y o = refl
-    front (Some Yield) x y o = refl
-    front (Some Die) x y o = refl
-    front None x y o = refl
+    front _ x y o = refl
 
 pub confined_run : (s : Scene) (journal : List Entry) → IsWellFormed s → HoldRun s journal → Confined s journal
 confined_run s journal good run past rest c i e =
@@ -97,16 +92,8 @@ confined_run s journal good run past rest c i e =
 
 -- others leave a client's part
 foreign_entry : (s : Scene) (w : World) (e : Entry) (c : ℕ) → client_of e ≢ c → (after_entry s w e).client c ≡ w.client c
-foreign_entry s w (Light d) c ne = grind (arith, nat_tests)
-foreign_entry s w (Kernel d found) c ne = grind (arith, nat_tests)
-foreign_entry s w (Stale d) c ne = grind (arith, nat_tests)
-foreign_entry s w (Leave d) c ne = grind (arith, nat_tests)
-foreign_entry s w (Info d) c ne = grind (arith, nat_tests)
 foreign_entry s w (Change i) c ne = refl
-foreign_entry s w (Emit d groups) c ne = grind (arith, nat_tests)
-foreign_entry s w (Place d t first count) c ne = grind (arith, nat_tests)
-foreign_entry s w (Gone d) c ne = grind (arith, nat_tests)
-foreign_entry s w (Run d i) c ne = grind (arith, nat_tests)
+foreign_entry s w _ c ne = grind (arith, nat_tests)
 
 pub foreign_entries : (s : Scene) (w : World) (es : List Entry) (c : ℕ) → All (λ e. client_of e ≢ c) es → (after_entries s w es).client c ≡ w.client c
 foreign_entries s w [] c others = refl

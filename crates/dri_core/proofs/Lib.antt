@@ -1,3 +1,4 @@
+-- Private parts, and the invariants of the world
 pub mod Parts
 pub mod Clean
 pub mod Invariant
@@ -7,30 +8,37 @@ pub mod Kept
 pub mod Textures
 pub mod TextureUses
 pub mod Sound
-pub mod Stamps
+-- Hold-runs: what is current, stamps, drawing, frames, what lasts
 pub mod Laws
+pub mod Stamps
 pub mod Draws
 pub mod FrameNumbers
 pub mod Carried
 pub mod Stood
-pub mod Cores
-pub mod CoreLaws
+pub mod Stays
+-- The table of entries as a test
 pub mod Decide
 pub mod FirstBad
+-- Runs of the core, and their journals
+pub mod Cores
+pub mod CoreLaws
 pub mod Queues
+-- Turns and kills
 pub mod EventTurns
 pub mod TurnEvents
 pub mod OneTurn
+pub mod Rounds
+pub mod Played
+-- How much is left, and how rounds end
 pub mod Lively
-pub mod Stays
 pub mod Endings
 pub mod Aged
 pub mod WorkParts
 pub mod Measures
 pub mod Going
-pub mod Rounds
-pub mod Played
 pub mod RoundsEnd
-pub mod RunLaws
+-- How high counts rise
 pub mod AgeBounds
 pub mod Bounds
+-- The laws as the public functions state them
+pub mod RunLaws

@@ -64,30 +64,14 @@ not_empty s w c p l is ne e = ne (sym (l.empty c e) ∙ is)
 pub ran_more : (s : Scene) (c i : ℕ) (command : Option Command) (last : Bool) → is_last s c i ≡ last → has_more (phase_after command last) ≡ true → i + 1 ≤ length (commands_of s c)
 ran_more s c i (Some Command_is.Swap) last is e = absurd (true≢false (sym e))
 ran_more s c i (Some Command_is.Yield) last is e = absurd (true≢false (sym e))
-ran_more s c i (Some (Command_is.Set setting)) true is e = absurd (true≢false (sym e))
-ran_more s c i (Some (Command_is.Clear colour depth)) true is e = absurd (true≢false (sym e))
-ran_more s c i (Some (Command_is.Triangle t)) true is e = absurd (true≢false (sym e))
-ran_more s c i (Some Command_is.Die) true is e = absurd (true≢false (sym e))
-ran_more s c i None true is e = absurd (true≢false (sym e))
-ran_more s c i (Some (Command_is.Set setting)) false is e = grind (arith, nat_tests)
-ran_more s c i (Some (Command_is.Clear colour depth)) false is e = grind (arith, nat_tests)
-ran_more s c i (Some (Command_is.Triangle t)) false is e = grind (arith, nat_tests)
-ran_more s c i (Some Command_is.Die) false is e = grind (arith, nat_tests)
-ran_more s c i None false is e = grind (arith, nat_tests)
+ran_more s c i _ true is e = absurd (true≢false (sym e))
+ran_more s c i _ false is e = grind (arith, nat_tests)
 
 pub ran_holds : (command : Option Command) (last : Bool) → is_holding (phase_after command last) ≡ true
 ran_holds (Some Command_is.Swap) last = refl
 ran_holds (Some Command_is.Yield) last = refl
-ran_holds (Some (Command_is.Set setting)) true = refl
-ran_holds (Some (Command_is.Clear colour depth)) true = refl
-ran_holds (Some (Command_is.Triangle t)) true = refl
-ran_holds (Some Command_is.Die) true = refl
-ran_holds None true = refl
-ran_holds (Some (Command_is.Set setting)) false = refl
-ran_holds (Some (Command_is.Clear colour depth)) false = refl
-ran_holds (Some (Command_is.Triangle t)) false = refl
-ran_holds (Some Command_is.Die) false = refl
-ran_holds None false = refl
+ran_holds _ true = refl
+ran_holds _ false = refl
 
 pub left_more : (s : Scene) (c place : ℕ) → 0 < place → (p : Phase) → (p ≡ Over) ⊎ (p ≡ Ask) → (p ≡ Ask → place ≤ length (commands_of s c)) → (last : Bool) → is_last s c (pred place) ≡ last → has_more (left_from p last) ≡ true → place ≤ length (commands_of s c)
 left_more s c place l p (inr ask) old last is e = old ask

@@ -13,12 +13,13 @@ use Rattle.dri_core.specs.Privates.{is_ready}
 use Rattle.dri_model.specs.Groups.{is_empty, no_groups}
 use Rattle.dri_core.specs.EventTable.{LegalEvent, after_event}
 use Rattle.dri_core.specs.Measures.{one_if, part_left, is_stale, has_to_wait, client_left, clients_left, server_left, work_left}
-use Rattle.dri_core.specs.Phases.{Phase, Out, Old, In, Over, Ask, Asking, Dead, is_done, is_holding, wants_in, phase_after}
+use Rattle.dri_core.specs.Phases.{Phase, Out, Old, In, Over, Ask, Asking, Dead, is_done, wants_in, phase_after}
 use Rattle.dri_base.specs.Ranges.{client_numbers}
 use Rattle.dri_base.specs.Scenes.{commands_of, window_of, command_at}
 use Rattle.dri_core.specs.Worlds.{put}
 use Rattle.dri_core.proofs.Aged.{Aged}
 use Rattle.dri_core.proofs.Lively.{Lively}
+use Rattle.dri_core.proofs.Cores.{holding_live, wanting_live}
 use Rattle.dri_core.proofs.Endings.{has_command}
 use Rattle.dri_core.proofs.Parts.{put_here, put_there}
 use Rattle.dri_core.proofs.TurnEvents.{Known}
@@ -177,10 +178,7 @@ module _ (s : Scene) (k : Core) (known : Known s k) (lively : Lively s k.world) 
     where
       live : (k.dying (suc c) ≡ true) ⊎ (wants_in (k.world.client (suc c)).phase ≡ true) → is_done (k.world.client (suc c)).phase ≡ false
       live (inl dying) = (known.tied.dying (suc c) dying).1
-      live (inr wants) = wanting (k.world.client (suc c)).phase wants
-        where
-          wanting : (p : Phase) → wants_in p ≡ true → is_done p ≡ false
-          wanting p h = grind arith
+      live (inr wants) = wanting_live (k.world.client (suc c)).phase wants
 
       wants : (k.dying (suc c) ≡ true) ⊎ (wants_in (k.world.client (suc c)).phase ≡ true) → (k.dying (suc c) || wants_in (k.world.client (suc c)).phase) ≡ true
       wants (inl dying) = rw dying refl
@@ -231,10 +229,7 @@ module _ (s : Scene) (k : Core) (known : Known s k) (lively : Lively s k.world) 
   gone_less c legal = enough s k (after_event s k (Gone c)) refl (omega (arith, sums, numbers))
     where
       live : LegalEvent s k (Gone c) → is_done (k.world.client c).phase ≡ false
-      live (inl held) = holding (k.world.client c).phase held.0
-        where
-          holding : (p : Phase) → is_holding p ≡ true → is_done p ≡ false
-          holding p h = grind arith
+      live (inl held) = holding_live (k.world.client c).phase held.0
       live (inr dying) = (known.tied.dying c dying.0).1
 
       here : put k.world.client c (record (k.world.client c) { phase = Dead }) c ≡ record (k.world.client c) { phase = Dead }

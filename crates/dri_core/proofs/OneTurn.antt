@@ -87,27 +87,15 @@ pub record Marked (k : Core) : Type 0 where
   pub held : k.word.held ≡ true → k.word.contended ≡ true
   pub free : k.word.held ≡ false → k.word.context ≡ 0
 
+taken : {held : Bool} → (held ≡ true) ⊎ (true ≡ false) → held ≡ false → ⊥
+taken (inl h) f = true≢false (sym h ∙ f)
+taken (inr n) f = true≢false n
+
 pub marked_step : (s : Scene) (k : Core) (e : Event) → Known s k → Marked k → LegalEvent s k e → (k.word.held ≡ true) ⊎ (is_take e ≡ false) → Marked (after_event s k e)
 marked_step s k (Light c) known m possible by = absurd (taken by possible.2)
-  where
-    taken : (k.word.held ≡ true) ⊎ (true ≡ false) → k.word.held ≡ false → ⊥
-    taken (inl h) f = true≢false (sym h ∙ f)
-    taken (inr n) f = true≢false n
 marked_step s k (Kernel c found) known m possible by = absurd (taken by possible.2)
-  where
-    taken : (k.word.held ≡ true) ⊎ (true ≡ false) → k.word.held ≡ false → ⊥
-    taken (inl h) f = true≢false (sym h ∙ f)
-    taken (inr n) f = true≢false n
 marked_step s k (Info c) known m possible by = absurd (taken by possible.2)
-  where
-    taken : (k.word.held ≡ true) ⊎ (true ≡ false) → k.word.held ≡ false → ⊥
-    taken (inl h) f = true≢false (sym h ∙ f)
-    taken (inr n) f = true≢false n
 marked_step s k (Change i) known m possible by = absurd (taken by possible.0)
-  where
-    taken : (k.word.held ≡ true) ⊎ (true ≡ false) → k.word.held ≡ false → ⊥
-    taken (inl h) f = true≢false (sym h ∙ f)
-    taken (inr n) f = true≢false n
 marked_step s k (Queue a) known m possible by = record { held = m.held; free = m.free }
 marked_step s k (Mark a) known m possible by = record { held = λ h. refl; free = m.free }
 marked_step s k (Stale c) known m possible by = record { held = m.held; free = m.free }

@@ -12,10 +12,14 @@ put_here f c p = grind (arith, nat_tests)
 pub put_there : (f : ℕ → Private) (c : ℕ) (p : Private) (d : ℕ) → (d ≡ c → ⊥) → put f c p d ≡ f d
 put_there f c p d ne = grind (arith, nat_tests)
 
--- what holds of a part holds of it wherever it is put
-pub put_keeps : (P : ℕ → Private → Type 0) (f : ℕ → Private) (c : ℕ) (p : Private) (d : ℕ) → P c p → P d (f d) → P d (put f c p d)
-put_keeps P f c p d here there = by_client (cases_eq d c)
+-- what is known of a part where another's is put, if it isn't the same client
+pub put_cases : (P : ℕ → Private → Type 0) (f : ℕ → Private) (c : ℕ) (p : Private) (d : ℕ) → P c p → ((d ≡ c → ⊥) → P d (f d)) → P d (put f c p d)
+put_cases P f c p d here there = by_client (cases_eq d c)
   where
     by_client : (d ≡ c) ⊎ (d ≡ c → ⊥) → P d (put f c p d)
     by_client (inl same) = subst (λ k. P k (put f c p k)) (sym same) (subst (P c) (sym (put_here f c p)) here)
-    by_client (inr ne) = subst (P d) (sym (put_there f c p d ne)) there
+    by_client (inr ne) = subst (P d) (sym (put_there f c p d ne)) (there ne)
+
+-- what holds of a part holds of it wherever it is put
+pub put_keeps : (P : ℕ → Private → Type 0) (f : ℕ → Private) (c : ℕ) (p : Private) (d : ℕ) → P c p → P d (f d) → P d (put f c p d)
+put_keeps P f c p d here there = put_cases P f c p d here (λ ne. there)

@@ -24,18 +24,7 @@ use Rattle.dri_core.proofs.TurnEvents.{Known, known_start, known_step}
 pub one_kill : (s : Scene) (k : Core) → OneKill s k
 one_kill s k (Stop c) possible by = rw (possible.2, possible.1, possible.3) refl
 one_kill s k (Gone c) possible by = rw by refl
-one_kill s k (Light c) possible by = absurd by
-one_kill s k (Kernel c found) possible by = absurd by
-one_kill s k (Queue a) possible by = absurd by
-one_kill s k (Mark a) possible by = absurd by
-one_kill s k (Stale c) possible by = absurd by
-one_kill s k (Emit c groups) possible by = absurd by
-one_kill s k (Place c t first count) possible by = absurd by
-one_kill s k (Run c i) possible by = absurd by
-one_kill s k (LeaveLight c) possible by = absurd by
-one_kill s k (LeaveKernel c) possible by = absurd by
-one_kill s k (Info c) possible by = absurd by
-one_kill s k (Change i) possible by = absurd by
+one_kill s k _ possible by = absurd by
 
 -- a turn or a kill that makes the event
 record Maker (s : Scene) (k : Core) (e : Event) : Type 0 where

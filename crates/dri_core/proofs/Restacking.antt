@@ -14,7 +14,7 @@ use Rattle.dri_core.specs.Phases.{Dead, is_holding}
 use Rattle.dri_core.specs.Restacks.{next_stack, touched_by, stamps_after, counter_after}
 use Rattle.dri_model.proofs.Touches.{clips_kept, origin_kept, how_many_at, stamp_bounded}
 use Rattle.dri_core.proofs.Clean.{put_clean}
-use Rattle.dri_core.proofs.Invariant.{Invariant, acting_holds}
+use Rattle.dri_core.proofs.Invariant.{Invariant, acting_holds, one_holder}
 
 -- a stamp that is still the shared one after a change was it before, and the window wasn't touched
 pub stamp_stood : (s : Scene) (w : World) (new : List Window) (stamp n : ℕ) → stamp ≤ w.counter → stamp ≡ stamps_after s w new n →
@@ -76,10 +76,7 @@ change s w i good inv legal = record {
 
 -- where c may be gone nobody else holds
 pub alone : (s : Scene) (w : World) (c : ℕ) → Invariant s w → LegalEntry s w (Gone c) → (d : ℕ) → is_holding (w.client d).phase ≡ true → d ≡ c
-alone s w c inv (inl dies) d h = same (inv.holding c (acting_holds _ (rw dies.0 refl))) (inv.holding d h)
-  where
-    same : w.holder ≡ Some c → w.holder ≡ Some d → d ≡ c
-    same a b = grind arith
+alone s w c inv (inl dies) d h = one_holder (inv.holding c (acting_holds _ (rw dies.0 refl))) (inv.holding d h)
 alone s w c inv (inr named) d h = by_hold named.2
   where
     by_hold : (is_holding (w.client c).phase ≡ true) ⊎ (w.holder ≡ None) → d ≡ c

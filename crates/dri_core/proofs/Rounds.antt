@@ -2,6 +2,7 @@
 use Rattle.std.proofs.Common.{◌≡◌, ℕ, zero, suc, List, [], ◌∷◌, ◌++◌, map, Bool, true, false, Option, Some, None, arith, refl, sym, ap, ◌∙◌, inl, inr, subst}
 use Rattle.std.specs.Prelude.{◌==◌, ◌⊎◌, ◌||◌}
 use Rattle.std.proofs.lemmas.Bool.{true≢false}
+use Rattle.std.proofs.Math.Bool.{or-true}
 use Rattle.std.proofs.lemmas.Bool.Decides.{nat_tests}
 use Rattle.dri_base.specs.declared.command.Item.{Item}
 use Rattle.dri_base.specs.declared.command.Item.TheVariants.{Turn, Kill}
@@ -18,13 +19,8 @@ use Rattle.dri_base.specs.Scenes.{kills_in, is_named}
 use Rattle.dri_core.specs.TurnLaws.{IsScheduled}
 use Rattle.dri_core.specs.Turns.{kill, item_event, one_event, core_after, played, rounds, turns_and_rounds}
 use Rattle.dri_core.proofs.OneTurn.{turns_are_legal}
+use Rattle.dri_core.proofs.TurnEvents.{none_is, some_is}
 use Rattle.dri_core.proofs.Going.{Going, going_start, going_on}
-
-pub some_same : (a b : Event) → Some a ≡ Some b → a ≡ b
-some_same a b e = cc
-
-pub none_some : {e : Event} → None ≡ Some e → ⊥
-none_some e = grind arith
 
 -- a kill that the schedule has is legal
 pub kill_legal : (s : Scene) (k : Core) (c : ℕ) (e : Event) → is_named s c ≡ true → kill k c ≡ Some e → LegalEvent s k e
@@ -37,21 +33,17 @@ kill_legal s k c e named h = by_hold (is_holding (k.world.client c).phase) refl
     stop free live undone = (named, live, free, undone)
 
     by_life : is_holding (k.world.client c).phase ≡ false → (a b : Bool) → k.dying c ≡ a → is_done (k.world.client c).phase ≡ b → LegalEvent s k e
-    by_life free false false live undone = subst (LegalEvent s k) (some_same (Stop c) e (rw (free, live, undone) at h)) (stop free live undone)
-    by_life free true b live undone = absurd (none_some (rw (free, live) at h))
-    by_life free false true live undone = absurd (none_some (rw (free, live, undone) at h))
+    by_life free false false live undone = subst (LegalEvent s k) (some_is (rw (free, live, undone) at h)) (stop free live undone)
+    by_life free true b live undone = absurd (none_is (rw (free, live) at h))
+    by_life free false true live undone = absurd (none_is (rw (free, live, undone) at h))
 
     by_hold : (b : Bool) → is_holding (k.world.client c).phase ≡ b → LegalEvent s k e
-    by_hold true holds = subst (LegalEvent s k) (some_same (Gone c) e (rw holds at h)) (gone holds)
+    by_hold true holds = subst (LegalEvent s k) (some_is (rw holds at h)) (gone holds)
     by_hold false free = by_life free (k.dying c) (is_done (k.world.client c).phase) refl refl
 
 pub scheduled_tail : (s : Scene) (item : Item) (items : List Item) → IsScheduled s (item ∷ items) → IsScheduled s items
 scheduled_tail s (Turn a) items all c e = all c e
-scheduled_tail s (Kill d) items all c e = all c (rw e (or_true (d == c)))
-  where
-    or_true : (b : Bool) → (b || true) ≡ true
-    or_true true = refl
-    or_true false = refl
+scheduled_tail s (Kill d) items all c e = all c (rw e (or-true (d == c)))
 
 pub item_legal : (s : Scene) (k : Core) (item : Item) (items : List Item) (e : Event) → IsWellFormed s → Going s k → IsScheduled s (item ∷ items) → item_event s k item ≡ Some e → LegalEvent s k e
 item_legal s k (Turn a) items e good going all h = turns_are_legal s k good going.known a e h

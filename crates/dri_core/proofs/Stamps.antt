@@ -1,10 +1,10 @@
 -- What a window's stamp tells of an entry.
 use Rattle.std.proofs.Common.{◌≡◌, ◌≤◌, ℕ, zero, suc, List, Bool, true, false, not, arith, refl, sym, ◌∙◌}
 use Rattle.std.specs.Prelude.{◌==◌}
-use Rattle.std.proofs.lemmas.Bool.{true≢false}
+use Rattle.std.proofs.lemmas.Bool.{not-true}
 use Rattle.std.proofs.lemmas.Bool.Decides.{nat_tests, Decides-int_eq}
 use Rattle.dri_base.specs.declared.journal.Entry.{Entry}
-use Rattle.dri_base.specs.declared.journal.Entry.TheVariants.{Light, Kernel, Stale, Emit, Place, Leave, Info, Change, Run, Gone}
+use Rattle.dri_base.specs.declared.journal.Entry.TheVariants.{Change, Gone}
 use Rattle.dri_base.specs.declared.scene.Scene.{Scene}
 use Rattle.dri_base.specs.declared.scene.Window.{Window}
 use Rattle.dri_core.specs.EntryTable.{after_entry}
@@ -48,16 +48,9 @@ stack_stays : (s : Scene) (w : World) (n : ℕ) → (w.stamps n == w.stamps n) �
 stack_stays s w n = rw (untouched s.width s.height w.stack n) (grind (arith, nat_tests))
 
 kept_by : (s : Scene) (w : World) (e : Entry) (n : ℕ) → w.stamps n ≤ w.counter → keeps s w e n ≡ not (touched_by s w (after_entry s w e).stack n)
-kept_by s w (Light c) n le = stack_stays s w n
-kept_by s w (Kernel c found) n le = stack_stays s w n
-kept_by s w (Stale c) n le = stack_stays s w n
-kept_by s w (Emit c groups) n le = stack_stays s w n
-kept_by s w (Place c t first count) n le = stack_stays s w n
-kept_by s w (Run c i) n le = stack_stays s w n
-kept_by s w (Leave c) n le = stack_stays s w n
-kept_by s w (Info c) n le = stack_stays s w n
 kept_by s w (Change i) n le = stamp_kept s w (next_stack s w) n le
 kept_by s w (Gone c) n le = stamp_kept s w (without_owner c w.stack) n le
+kept_by s w _ n le = stack_stays s w n
 
 pub stamp_tells : (s : Scene) (w : World) (e : Entry) (n : ℕ) → Invariant s w → n ≤ 64 → StampTells s w e n
 stamp_tells s w e n inv le = record {
@@ -69,9 +62,5 @@ stamp_tells s w e n inv le = record {
     kept : keeps s w e n ≡ not (touched_by s w (after_entry s w e).stack n)
     kept = kept_by s w e n (inv.counted n (omega arith))
 
-    not_true : (b : Bool) → true ≡ not b → b ≡ false
-    not_true false e = refl
-    not_true true e = absurd (true≢false e)
-
     not_touched : keeps s w e n ≡ true → touched_by s w (after_entry s w e).stack n ≡ false
-    not_touched keeps = not_true _ (sym keeps ∙ kept)
+    not_touched keeps = not-true _ (sym kept ∙ keeps)

@@ -5,7 +5,7 @@ use Rattle.std.specs.List.{All}
 use Rattle.std.proofs.lemmas.Bool.{true≢false}
 use Rattle.std.proofs.lemmas.Bool.Decides.{nat_tests}
 use Rattle.dri_base.specs.declared.journal.Entry.{Entry}
-use Rattle.dri_base.specs.declared.journal.Entry.TheVariants.{Light, Kernel, Stale, Emit, Place, Leave, Info, Change, Run, Gone}
+use Rattle.dri_base.specs.declared.journal.Entry.TheVariants.{Change, Run, Gone}
 use Rattle.dri_base.specs.declared.scene.ClientScript.{ClientScript}
 use Rattle.dri_base.specs.declared.scene.Scene.{Scene}
 use Rattle.dri_base.specs.Ranges.{InRange, client_numbers}
@@ -22,16 +22,9 @@ use Rattle.dri_core.proofs.Lively.{lively_after}
 -- The number of changes made: the server's entries alone change it.
 
 made_step : (s : Scene) (w : World) (e : Entry) → client_of e ≢ 0 → (after_entry s w e).made ≡ w.made
-made_step s w (Light c) ne = refl
-made_step s w (Kernel c found) ne = refl
-made_step s w (Stale c) ne = refl
-made_step s w (Emit c groups) ne = refl
-made_step s w (Place c t first count) ne = refl
-made_step s w (Run c i) ne = refl
-made_step s w (Leave c) ne = refl
-made_step s w (Info c) ne = refl
 made_step s w (Change i) ne = absurd (ne refl)
 made_step s w (Gone c) ne = refl
+made_step s w _ ne = refl
 
 made_along : (s : Scene) (w : World) (es : List Entry) → All (λ e. client_of e ≢ 0) es → (after_entries s w es).made ≡ w.made
 made_along s w [] others = refl
@@ -43,16 +36,10 @@ made_stays s seen later others = ap (λ (w : World). w.made) (after_entries-appe
 -- A client that is done: no entry of its own is legal, but none takes that from it.
 
 done_step : (s : Scene) (w : World) (e : Entry) (c : ℕ) → LegalEntry s w e → is_done (w.client c).phase ≡ true → is_done ((after_entry s w e).client c).phase ≡ true
-done_step s w (Light d) c legal done = grind (arith, nat_tests)
-done_step s w (Kernel d found) c legal done = grind (arith, nat_tests)
-done_step s w (Stale d) c legal done = grind (arith, nat_tests)
-done_step s w (Emit d groups) c legal done = grind (arith, nat_tests)
-done_step s w (Place d t first count) c legal done = grind (arith, nat_tests)
-done_step s w (Leave d) c legal done = grind (arith, nat_tests)
-done_step s w (Info d) c legal done = grind (arith, nat_tests)
 done_step s w (Change i) c legal done = done
 done_step s w (Run d i) c legal done = grind (arith, nat_tests)
 done_step s w (Gone d) c legal done = grind (arith, nat_tests)
+done_step s w _ c legal done = grind (arith, nat_tests)
 
 done_along : (s : Scene) (w : World) (es : List Entry) (c : ℕ) → LegalEntries s w es → is_done (w.client c).phase ≡ true → is_done ((after_entries s w es).client c).phase ≡ true
 done_along s w [] c run done = done
@@ -65,16 +52,10 @@ done_stays s seen later c run done =
 -- All changes made: no other is legal.
 
 all_made_step : (s : Scene) (w : World) (e : Entry) → LegalEntry s w e → w.made ≡ length s.changes → (after_entry s w e).made ≡ length s.changes
-all_made_step s w (Light d) legal all = all
-all_made_step s w (Kernel d found) legal all = all
-all_made_step s w (Stale d) legal all = all
-all_made_step s w (Emit d groups) legal all = all
-all_made_step s w (Place d t first count) legal all = all
-all_made_step s w (Leave d) legal all = all
-all_made_step s w (Info d) legal all = all
 all_made_step s w (Change i) legal all = let next = legal.1 in let few = legal.2 in absurd (omega arith)
 all_made_step s w (Run d i) legal all = all
 all_made_step s w (Gone d) legal all = all
+all_made_step s w _ legal all = all
 
 all_made_along : (s : Scene) (w : World) (es : List Entry) → LegalEntries s w es → w.made ≡ length s.changes → (after_entries s w es).made ≡ length s.changes
 all_made_along s w [] run all = all

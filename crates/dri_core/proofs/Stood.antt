@@ -1,13 +1,13 @@
 -- Frames that stood.
-use Rattle.std.proofs.Common.{◌≡◌, ◌≢◌, ◌+◌, ◌-◌, ℕ, suc, List, [], ◌∷◌, ◌++◌, Bool, true, false, Option, Some, None, arith, refl, sym, ap, ◌∙◌, inl, inr, subst}
+use Rattle.std.proofs.Common.{◌≡◌, ◌≢◌, ◌+◌, ◌-◌, ℕ, suc, List, [], ◌∷◌, ◌++◌, Bool, true, false, Option, Some, arith, refl, sym, ap, ◌∙◌, inl, inr, subst}
 use Rattle.std.specs.Prelude.{◌==◌, ◌⊎◌, slice_get, pred, ℤ}
 use Rattle.std.proofs.lemmas.Bool.Decides.{nat_tests}
 use Rattle.std.proofs.lemmas.Bool.{true≢false, cases_eq, false_from_ne_true}
 use Rattle.dri_base.specs.declared.journal.Entry.{Entry}
 use Rattle.dri_base.specs.declared.scene.Window.{Window}
 use Rattle.dri_base.specs.declared.command.Command.{Command}
-use Rattle.dri_base.specs.declared.command.Command.TheVariants.{Set, Clear, Triangle, Swap, Yield, Die}
-use Rattle.dri_base.specs.declared.journal.Entry.TheVariants.{Light, Kernel, Stale, Emit, Place, Leave, Info, Change, Run, Gone}
+use Rattle.dri_base.specs.declared.command.Command.TheVariants.{Clear, Swap}
+use Rattle.dri_base.specs.declared.journal.Entry.TheVariants.{Change, Run, Gone}
 use Rattle.dri_base.specs.declared.scene.Scene.{Scene}
 use Rattle.dri_base.proofs.RangeLemmas.{IsWellFormed}
 use Rattle.dri_base.specs.Scenes.{window_of, command_at, commands_of, script_of}
@@ -69,12 +69,7 @@ drawn_own s w c i first n good inv legal drawn = record {
 
 drawn_clear : (r : Rules) (image : Option Image) (command : Option Command) (x y : ℤ) (under : Pixel) → is_clear command ≡ true → drawn_by r image command x y under ≡ drawn_by r image command x y blank
 drawn_clear r image (Some (Clear colour depth)) x y under is = refl
-drawn_clear r image (Some (Triangle t)) x y under is = absurd (true≢false (sym is))
-drawn_clear r image (Some (Set setting)) x y under is = absurd (true≢false (sym is))
-drawn_clear r image (Some Swap) x y under is = absurd (true≢false (sym is))
-drawn_clear r image (Some Yield) x y under is = absurd (true≢false (sym is))
-drawn_clear r image (Some Die) x y under is = absurd (true≢false (sym is))
-drawn_clear r image None x y under is = absurd (true≢false (sym is))
+drawn_clear r image _ x y under is = absurd (true≢false (sym is))
 
 drawn_first : (s : Scene) (w : World) (c first : ℕ) → IsWellFormed s → Sound s w → LegalEntry s w (Run c first) → is_clear (slice_get (commands_of s c) (pred first)) ≡ true → Drawn s c first 0 (after_entry s w (Run c first))
 drawn_first s w c first good inv legal is = record {
@@ -89,13 +84,6 @@ stamp_untouched s w new c good inv keeps = restack_keeps s w new (window_of s c)
 -- one entry on
 drawn_step : (s : Scene) (w : World) (e : Entry) (c first n : ℕ) → IsWellFormed s → Sound s w → LegalEntry s w e → is_clear (slice_get (commands_of s c) (pred first)) ≡ true →
     keeps s w e (window_of s c) ≡ true → Drawn s c first n w → (m : ℕ) × Drawn s c first m (after_entry s w e)
-drawn_step s w (Light d) c first n good inv legal is keeps drawn = (n, record { at = grind (arith, nat_tests, drawn.at); back = drawn.back })
-drawn_step s w (Kernel d found) c first n good inv legal is keeps drawn = (n, record { at = grind (arith, nat_tests, drawn.at); back = drawn.back })
-drawn_step s w (Stale d) c first n good inv legal is keeps drawn = (n, record { at = grind (arith, nat_tests, drawn.at); back = drawn.back })
-drawn_step s w (Emit d groups) c first n good inv legal is keeps drawn = (n, record { at = grind (arith, nat_tests, drawn.at); back = drawn.back })
-drawn_step s w (Place d t begin count) c first n good inv legal is keeps drawn = (n, record { at = grind (arith, nat_tests, drawn.at); back = drawn.back })
-drawn_step s w (Leave d) c first n good inv legal is keeps drawn = (n, record { at = grind (arith, nat_tests, drawn.at); back = drawn.back })
-drawn_step s w (Info d) c first n good inv legal is keeps drawn = (n, record { at = grind (arith, nat_tests, drawn.at); back = drawn.back })
 drawn_step s w (Change i) c first n good inv legal is keeps drawn =
     (n, drawn_came s w (after_entry s w (Change i)) c first n refl (λ x y. came_from s w (next_stack s w) (window_of s c) x y (stamp_untouched s w (next_stack s w) c good inv keeps)) drawn)
 drawn_step s w (Gone d) c first n good inv legal is keeps drawn =
@@ -114,6 +102,7 @@ drawn_step s w (Run d i) c first n good inv legal is keeps drawn = by_client (ca
         back = λ x y inside. back_left w (w.client d) (command_at s d i) x y ((acting_is_current s w inv d (inl legal.0)).copy x y ∙ apart_at s w c d x y (other_window s w c d first i good ne is legal) inside) ∙ drawn.back x y inside;
       },
     )
+drawn_step s w _ c first n good inv legal is keeps drawn = (n, record { at = grind (arith, nat_tests, drawn.at); back = drawn.back })
 
 drawn_steps : (s : Scene) (w : World) (es : List Entry) (c first n : ℕ) → IsWellFormed s → Sound s w → LegalEntries s w es → is_clear (slice_get (commands_of s c) (pred first)) ≡ true →
     Stands s (window_of s c) w es → Drawn s c first n w → (m : ℕ) × Drawn s c first m (after_entries s w es)
@@ -140,23 +129,13 @@ swap_shows s w c first last n inv legal is drawn x y inside = front (command_at 
 
     front : (command : Option Command) → is_swap command ≡ true → front_after w (w.client c).copy command x y ≡ (w.back x y).colour
     front (Some Swap) is = rw copy refl
-    front (Some (Clear colour depth)) is = absurd (true≢false (sym is))
-    front (Some (Triangle t)) is = absurd (true≢false (sym is))
-    front (Some (Set setting)) is = absurd (true≢false (sym is))
-    front (Some Yield) is = absurd (true≢false (sym is))
-    front (Some Die) is = absurd (true≢false (sym is))
-    front None is = absurd (true≢false (sym is))
+    front _ is = absurd (true≢false (sym is))
 
 -- a front that isn't swapped at a pixel stays there
 front_left : (w : World) (copy : ℕ → ℕ → Bool) (command : Option Command) (x y : ℕ) → (is_swap command ≡ false) ⊎ (copy x y ≡ false) → front_after w copy command x y ≡ w.front x y
 front_left w copy (Some Swap) x y (inl noswap) = absurd (true≢false noswap)
 front_left w copy (Some Swap) x y (inr out) = rw out refl
-front_left w copy (Some (Clear colour depth)) x y noswap = refl
-front_left w copy (Some (Triangle t)) x y noswap = refl
-front_left w copy (Some (Set setting)) x y noswap = refl
-front_left w copy (Some Yield) x y noswap = refl
-front_left w copy (Some Die) x y noswap = refl
-front_left w copy None x y noswap = refl
+front_left w copy _ x y noswap = refl
 
 -- what is shown stays where each pixel of the client's window came from one that showed it
 shows_came : (s : Scene) (w v : World) (c first last : ℕ) → ((x y : ℕ) → clips_in s v c x y ≡ true → CameFrom s w v.stack v.front v.back (window_of s c) x y) →
@@ -167,13 +146,6 @@ shows_came s w v c first last came shows x y inside = let p = came x y inside in
 
 shows_step : (s : Scene) (w : World) (e : Entry) (c first last : ℕ) → IsWellFormed s → Sound s w → LegalEntry s w e → is_clear (slice_get (commands_of s c) (pred first)) ≡ true →
     keeps s w e (window_of s c) ≡ true → IsNoSwap s c e → ShowsBetween s c first last w → ShowsBetween s c first last (after_entry s w e)
-shows_step s w (Light d) c first last good inv legal is keeps noswap shows = shows
-shows_step s w (Kernel d found) c first last good inv legal is keeps noswap shows = shows
-shows_step s w (Stale d) c first last good inv legal is keeps noswap shows = shows
-shows_step s w (Emit d groups) c first last good inv legal is keeps noswap shows = shows
-shows_step s w (Place d t begin count) c first last good inv legal is keeps noswap shows = shows
-shows_step s w (Leave d) c first last good inv legal is keeps noswap shows = shows
-shows_step s w (Info d) c first last good inv legal is keeps noswap shows = shows
 shows_step s w (Change i) c first last good inv legal is keeps noswap shows =
     shows_came s w (after_entry s w (Change i)) c first last (λ x y. came_from s w (next_stack s w) (window_of s c) x y (stamp_untouched s w (next_stack s w) c good inv keeps)) shows
 shows_step s w (Gone d) c first last good inv legal is keeps noswap shows =
@@ -183,6 +155,7 @@ shows_step s w (Run d i) c first last good inv legal is keeps noswap shows = λ 
     by_client : (x y : ℕ) → clips_in s w c x y ≡ true → (d ≡ c) ⊎ (d ≡ c → ⊥) → (is_swap (command_at s d i) ≡ false) ⊎ ((w.client d).copy x y ≡ false)
     by_client x y inside (inl same) = inl (false_from_ne_true _ (λ swaps. noswap i (subst (λ k. is_swap (command_at s k i) ≡ true) same swaps) (ap (λ k. Run k i) same)))
     by_client x y inside (inr ne) = inr ((acting_is_current s w inv d (inl legal.0)).copy x y ∙ apart_at s w c d x y (other_window s w c d first i good ne is legal) inside)
+shows_step s w _ c first last good inv legal is keeps noswap shows = shows
 
 shows_steps : (s : Scene) (w : World) (es : List Entry) (c first last : ℕ) → IsWellFormed s → Sound s w → LegalEntries s w es → is_clear (slice_get (commands_of s c) (pred first)) ≡ true →
     Stands s (window_of s c) w es → NoSwap s c es → ShowsBetween s c first last w → ShowsBetween s c first last (after_entries s w es)

@@ -2,9 +2,9 @@
 use Rattle.std.proofs.Common.{◌≡◌, ◌<◌, ◌≤◌, ◌+◌, ◌-◌, ◌/◌, ℕ, suc, List, length, get_or, Bool, true, false, not, Option, Some, None, arith, refl, sym, ◌∙◌, inl, inr, subst}
 use Rattle.std.specs.Prelude.{◌⊎◌, ◌==◌, ◌||◌, ◌&&◌, nat_lt, nat_le, if◌then◌else◌}
 use Rattle.std.proofs.lemmas.Bool.Decides.{nat_tests}
-use Rattle.std.proofs.lemmas.Bool.{true≢false, cases_eq, and_parts, false_from_ne_true}
+use Rattle.std.proofs.lemmas.Bool.{true≢false, cases_eq, and_parts, false_from_ne_true, not-true, not-false}
 use Rattle.dri_base.specs.declared.command.Command.{Command}
-use Rattle.dri_base.specs.declared.command.Command.TheVariants.{Set, Clear, Triangle, Swap, Yield, Die}
+use Rattle.dri_base.specs.declared.command.Command.TheVariants.{Triangle}
 use Rattle.dri_base.specs.declared.journal.Entry.TheVariants.{Place, Run}
 use Rattle.dri_base.specs.declared.scene.Scene.{Scene}
 use Rattle.dri_base.proofs.RangeLemmas.{IsWellFormed}
@@ -17,10 +17,10 @@ use Rattle.dri_core.specs.Privates.{Private, used_run}
 use Rattle.dri_core.specs.EntryTable.{LegalEntry, after_entry}
 use Rattle.dri_core.specs.Effects.{run_by, placed_by, run_at, heap_after, local_after}
 use Rattle.dri_model.proofs.Counts.{none_from}
-use Rattle.dri_core.proofs.Invariant.{Invariant, is_acting, acting_holds}
-use Rattle.dri_core.proofs.Parts.{put_here, put_keeps, put_there}
+use Rattle.dri_core.proofs.Invariant.{Invariant, is_acting, acting_holds, one_holder}
+use Rattle.dri_core.proofs.Parts.{put_cases, put_here, put_keeps, put_there}
 use Rattle.dri_core.specs.Runs.{HasLive, IsLiveAt}
-use Rattle.dri_core.proofs.Textures.{put_cases, ApartIn, Held, HeldBy, Textures, alone_put, some_run, in_bounds, kept_one, byte_in_run}
+use Rattle.dri_core.proofs.Textures.{ApartIn, Held, HeldBy, Textures, alone_put, some_run, in_bounds, kept_one, byte_in_run}
 
 -- what a command does to the heap
 pub record Grown (h new : Heap) : Type 0 where
@@ -38,29 +38,16 @@ grown_touched h run ages = record { global = omega arith; ages = λ k. grind (ar
 pub grown : (h : Heap) (run : Option Heaps.Run) (command : Option Command) → ((k : ℕ) → h.age k ≤ h.global) → Grown h (heap_after h run command)
 grown h (Some run) (Some (Triangle t)) ages = grown_touched h run ages
 grown h None (Some (Triangle t)) ages = grown_same h ages
-grown h run (Some (Set setting)) ages = grown_same h ages
-grown h run (Some (Clear colour depth)) ages = grown_same h ages
-grown h run (Some Swap) ages = grown_same h ages
-grown h run (Some Yield) ages = grown_same h ages
-grown h run (Some Die) ages = grown_same h ages
-grown h run None ages = grown_same h ages
+grown h run _ ages = grown_same h ages
 
 pub local_grown : (h : Heap) (run : Option Heaps.Run) (command : Option Command) (local : ℕ) → local ≡ h.global → local_after local h run command ≡ (heap_after h run command).global
 local_grown h (Some run) (Some (Triangle t)) local e = refl
 local_grown h None (Some (Triangle t)) local e = e
-local_grown h run (Some (Set setting)) local e = e
-local_grown h run (Some (Clear colour depth)) local e = e
-local_grown h run (Some Swap) local e = e
-local_grown h run (Some Yield) local e = e
-local_grown h run (Some Die) local e = e
-local_grown h run None local e = e
+local_grown h run _ local e = e
 
 -- who acts beside c isn't there
 pub alone : (s : Scene) (w : World) (c d : ℕ) → Invariant s w → is_acting (w.client c).phase ≡ true → is_acting (w.client d).phase ≡ true → d ≡ c
-alone s w c d inv a b = same (inv.holding c (acting_holds _ a)) (inv.holding d (acting_holds _ b))
-  where
-    same : w.holder ≡ Some c → w.holder ≡ Some d → d ≡ c
-    same a b = grind arith
+alone s w c d inv a b = one_holder (inv.holding c (acting_holds _ a)) (inv.holding d (acting_holds _ b))
 
 pub not_free : (s : Scene) (w : World) (c : ℕ) → Invariant s w → is_acting (w.client c).phase ≡ true → w.holder ≡ None → ⊥
 not_free s w c inv a none = same (inv.holding c (acting_holds _ a))
@@ -115,15 +102,7 @@ pub freed_low : (global m : ℕ) → global ≤ (if m == 0 then global else suc 
 freed_low global m = grind (arith, nat_tests)
 
 pub room_at : (n : ℕ) (h : Heap) (m count first k : ℕ) → fits n h m count first ≡ true → first ≤ k → k < first + count → is_room n h m k ≡ true
-room_at n h m count first k e le lt = not_not (is_room n h m k) (none_from (λ j. not (is_room n h m j)) first count k (not_any _ (and_parts _ _ e).1) le lt)
-  where
-    not_not : (b : Bool) → not b ≡ false → b ≡ true
-    not_not true e = refl
-    not_not false e = absurd (true≢false e)
-
-    not_any : (b : Bool) → not b ≡ true → b ≡ false
-    not_any true e = absurd (true≢false (sym e))
-    not_any false e = refl
+room_at n h m count first k e le lt = not-false (is_room n h m k) (none_from (λ j. not (is_room n h m j)) first count k (not-true _ (and_parts _ _ e).1) le lt)
 
 pub no_room : (a b : Bool) → a ≡ true → b ≡ false → (not a || b) ≡ false
 no_room a b p q = rw (p, q) refl

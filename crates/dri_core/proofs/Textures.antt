@@ -1,8 +1,6 @@
 -- What is placed stays intact.
-use Rattle.std.proofs.Common.{◌≡◌, ◌<◌, ◌≤◌, ◌+◌, ◌-◌, ◌*◌, ◌/◌, ℕ, suc, Bool, true, false, Option, Some, None, arith, refl, sym, inl, inr, subst}
-use Rattle.std.specs.Prelude.{◌⊎◌}
+use Rattle.std.proofs.Common.{◌≡◌, ◌<◌, ◌≤◌, ◌+◌, ◌-◌, ◌*◌, ◌/◌, ℕ, suc, Bool, true, false, Option, Some, None, arith, refl, sym, subst}
 use Rattle.std.proofs.lemmas.Bool.Decides.{nat_tests}
-use Rattle.std.proofs.lemmas.Bool.{cases_eq}
 use Rattle.std.proofs.Math.Nat.{add-mul-div_left, le-div_iff_mul-le, div-mul-le_self}
 use Rattle.dri_core.specs.Phases.{Out}
 use Rattle.dri_base.specs.declared.journal.Entry.TheVariants.{Light, Kernel, Stale, Emit, Leave, Info, Change, Gone}
@@ -18,15 +16,7 @@ use Rattle.dri_core.specs.Effects.{taken_in, run_at}
 use Rattle.dri_core.specs.Runs.{HasBytes, HasLive, IsLiveAt}
 use Rattle.dri_model.proofs.Counts.{none_from}
 use Rattle.dri_core.proofs.Invariant.{Invariant, is_acting}
-use Rattle.dri_core.proofs.Parts.{put_here, put_there, put_keeps}
-
--- what is known of a part where another's is put, if it isn't the same client
-pub put_cases : (P : ℕ → Private → Type 0) (f : ℕ → Private) (c : ℕ) (p : Private) (d : ℕ) → P c p → ((d ≡ c → ⊥) → P d (f d)) → P d (put f c p d)
-put_cases P f c p d here there = by_client (cases_eq d c)
-  where
-    by_client : (d ≡ c) ⊎ (d ≡ c → ⊥) → P d (put f c p d)
-    by_client (inl same) = subst (λ k. P k (put f c p k)) (sym same) (subst (P c) (sym (put_here f c p)) here)
-    by_client (inr ne) = subst (P d) (sym (put_there f c p d ne)) (there ne)
+use Rattle.dri_core.proofs.Parts.{put_keeps}
 
 -- a placed texture's run has its count of regions, is in use, and has the texture's bytes
 pub record Held (s : Scene) (h : Heap) (memory : ℕ → ℕ) (c t : ℕ) (run : Heaps.Run) : Type 0 where

@@ -1,10 +1,10 @@
 -- What a turn brings is legal.
 use Rattle.std.proofs.Common.{◌≡◌, ◌+◌, ℕ, suc, List, [], ◌∷◌, Bool, true, false, Option, Some, None, arith, refl, sym, ◌∙◌, inl, inr, subst}
-use Rattle.std.specs.Prelude.{◌==◌, not, ◌&&◌}
+use Rattle.std.specs.Prelude.{◌==◌, not, ◌&&◌, ◌⊎◌, if◌then◌else◌}
 use Rattle.std.proofs.lemmas.Bool.{true≢false, cond-false}
 use Rattle.std.proofs.lemmas.Bool.Decides.{nat_tests}
 use Rattle.dri_base.specs.declared.journal.Event.{Event}
-use Rattle.dri_base.specs.declared.journal.Event.TheVariants.{Kernel, Info, Gone}
+use Rattle.dri_base.specs.declared.journal.Event.TheVariants.{Kernel, Info, Gone, LeaveKernel, LeaveLight}
 use Rattle.dri_core.specs.Phases.{Phase}
 use Rattle.dri_core.specs.Phases as Phase_is
 use Rattle.dri_base.specs.declared.command.Command.{Command}
@@ -91,6 +91,14 @@ acting_is_legal s k c e good phase (Some Command_is.Swap) is h = subst (LegalEve
 acting_is_legal s k c e good phase (Some Command_is.Yield) is h = subst (LegalEvent s k) (some_is h) (phase, refl, rw is refl)
 acting_is_legal s k c e good phase None is h = absurd (none_is h)
 
+leave_is_legal : (s : Scene) (k : Core) (c : ℕ) (e : Event) → ((k.world.client c).phase ≡ Phase_is.Over) ⊎ ((k.world.client c).phase ≡ Phase_is.Ask) →
+    (if k.word.contended then Some (LeaveKernel c) else Some (LeaveLight c)) ≡ Some e → LegalEvent s k e
+leave_is_legal s k c e phase h = by_mark k.word.contended refl
+  where
+    by_mark : (b : Bool) → k.word.contended ≡ b → LegalEvent s k e
+    by_mark true m = subst (LegalEvent s k) (some_is (rw m at h)) (phase, m)
+    by_mark false m = subst (LegalEvent s k) (some_is (rw m at h)) (phase, m)
+
 pub phase_turn_is_legal : (s : Scene) (k : Core) (c : ℕ) (e : Event) → IsWellFormed s → k.dying (suc c) ≡ false → (p : Phase) → (k.world.client (suc c)).phase ≡ p → phase_turn s k (suc c) p ≡ Some e → LegalEvent s k e
 phase_turn_is_legal s k c e good live Phase_is.Out phase h = by_name (not k.word.held && (k.word.context == suc c + 1)) refl
   where
@@ -100,16 +108,8 @@ phase_turn_is_legal s k c e good live Phase_is.Out phase h = by_name (not k.word
         (λ free next. (live, phase, free, refl, grind (arith, nat_tests), next)) (inr (rw phase refl)) (λ en eh. rw (eh, en, live, phase) (grind (arith, nat_tests))) (rw n at h)
 phase_turn_is_legal s k c e good live Phase_is.Old phase h = subst (LegalEvent s k) (some_is h) phase
 phase_turn_is_legal s k c e good live Phase_is.In phase h = acting_is_legal s k (suc c) e good phase (command_at s (suc c) (k.world.client (suc c)).place) refl h
-phase_turn_is_legal s k c e good live Phase_is.Over phase h = by_mark k.word.contended refl
-  where
-    by_mark : (b : Bool) → k.word.contended ≡ b → LegalEvent s k e
-    by_mark true m = subst (LegalEvent s k) (some_is (rw m at h)) (inl phase, m)
-    by_mark false m = subst (LegalEvent s k) (some_is (rw m at h)) (inl phase, m)
-phase_turn_is_legal s k c e good live Phase_is.Ask phase h = by_mark k.word.contended refl
-  where
-    by_mark : (b : Bool) → k.word.contended ≡ b → LegalEvent s k e
-    by_mark true m = subst (LegalEvent s k) (some_is (rw m at h)) (inr phase, m)
-    by_mark false m = subst (LegalEvent s k) (some_is (rw m at h)) (inr phase, m)
+phase_turn_is_legal s k c e good live Phase_is.Over phase h = leave_is_legal s k (suc c) e (inl phase) h
+phase_turn_is_legal s k c e good live Phase_is.Ask phase h = leave_is_legal s k (suc c) e (inr phase) h
 phase_turn_is_legal s k c e good live Phase_is.Asking phase h =
     or_is_legal s k (suc c) (Info (suc c)) e (λ free next. (live, phase, free, next)) (inr (rw phase refl)) (λ en eh. rw (eh, en, live, phase) refl) h
 phase_turn_is_legal s k c e good live Phase_is.Ended phase h = absurd (none_is h)

@@ -1,5 +1,5 @@
 -- What each part of the work left becomes.
-use Rattle.std.proofs.Common.{◌≡◌, ◌<◌, ◌≤◌, ◌+◌, ◌*◌, ℕ, List, [], ◌∷◌, ◌++◌, length, Bool, true, false, Option, Some, None, arith, refl, sym, ap, inl, inr}
+use Rattle.std.proofs.Common.{◌≡◌, ◌<◌, ◌≤◌, ◌+◌, ◌*◌, ℕ, List, [], ◌∷◌, ◌++◌, length, Bool, true, false, Option, Some, arith, refl, sym, ap, inl, inr}
 use Rattle.std.specs.Prelude.{◌==◌, ◌⊎◌, if◌then◌else◌, not, ◌&&◌, nat_lt}
 use Rattle.std.specs.List.{sum_by}
 use Rattle.std.proofs.lemmas.Bool.{true≢false, cases_eq}
@@ -78,16 +78,8 @@ stale_part n l p st ur uc w v e = rw e (omega (arith, one_bound v))
 pub ran_left : (command : Option Command) (last : Bool) → phase_left (phase_after command last) ≤ 15
 ran_left (Some Command_is.Swap) last = omega arith
 ran_left (Some Command_is.Yield) last = omega arith
-ran_left (Some (Command_is.Set setting)) true = omega arith
-ran_left (Some (Command_is.Clear colour depth)) true = omega arith
-ran_left (Some (Command_is.Triangle t)) true = omega arith
-ran_left (Some Command_is.Die) true = omega arith
-ran_left None true = omega arith
-ran_left (Some (Command_is.Set setting)) false = omega arith
-ran_left (Some (Command_is.Clear colour depth)) false = omega arith
-ran_left (Some (Command_is.Triangle t)) false = omega arith
-ran_left (Some Command_is.Die) false = omega arith
-ran_left None false = omega arith
+ran_left _ true = omega arith
+ran_left _ false = omega arith
 
 pub one_undone : (n : ℕ) (b : Bool) → (17 * n + 4) * one_if b ≤ 17 * n + 4
 one_undone n true = omega arith

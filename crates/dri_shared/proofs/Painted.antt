@@ -12,8 +12,9 @@ use Rattle.dri_clips.specs.declared.change.ChangeFault.{ChangeFault}
 use Rattle.dri_clips.specs.declared.change.ChangeFault.TheVariants.{NoWindow, OutOfRange, AlreadyMapped, NotMapped, OutOfMemory}
 use Rattle.dri_clips.specs.declared.touched.Paint.{Paint}
 use Rattle.dri_clips.specs.declared.touched.Touched.{Touched}
-use Rattle.dri_model.specs.Counting.{all_below, how_many}
-use Rattle.dri_model.specs.Stacks.{Refusal, clips, ground_colour, is_touched, origin, painted, restamped, same_bool, same_origin, same_set, same_top, top, unless_refused}
+use Rattle.dri_core.proofs.Stamps.{untouched}
+use Rattle.dri_model.specs.Counting.{how_many}
+use Rattle.dri_model.specs.Stacks.{Refusal, clips, ground_colour, is_touched, origin, painted, restamped, same_top, top, unless_refused}
 use Rattle.dri_base.proofs.PlaneLists.{plane_same}
 use Rattle.dri_shared.specs.Holdings.{IsRestackedOn}
 use Rattle.dri_shared.proofs.Drawn.{shows_same}
@@ -82,25 +83,6 @@ restacked stack board board' card card' touched is are sides shown others keep =
   others = others;
   sides = keep;
 }
-
--- the same stack touches nothing
-all_true : (p : ℕ → Bool) (n : ℕ) → ((k : ℕ) → p k ≡ true) → all_below p n ≡ true
-all_true p zero all = refl
-all_true p (suc n) all = rw (all n, all_true p n all) refl
-
-same_bool_self : (b : Bool) → same_bool b b ≡ true
-same_bool_self true = refl
-same_bool_self false = refl
-
-pub untouched : (width height : ℕ) (ws : List Window) (n : ℕ) → is_touched width height ws ws n ≡ false
-untouched width height ws n = rw (set, corner) refl
-  where
-    set : same_set width height (clips width height ws n) (clips width height ws n) ≡ true
-    set = all_true (λ x. all_below (λ y. same_bool (clips width height ws n x y) (clips width height ws n x y)) height) width
-        (λ x. all_true (λ y. same_bool (clips width height ws n x y) (clips width height ws n x y)) height (λ y. same_bool_self (clips width height ws n x y)))
-
-    corner : same_origin (origin ws n) (origin ws n) ≡ true
-    corner = rw ((Decides-int_eq (origin ws n).0 (origin ws n).0).1 refl, (Decides-int_eq (origin ws n).1 (origin ws n).1).1 refl) refl
 
 none_touched : (p : ℕ → Bool) (n : ℕ) → ((k : ℕ) → p k ≡ false) → how_many p n ≡ 0
 none_touched p zero none = refl

@@ -4,7 +4,7 @@ use Rattle.std.proofs.lemmas.List.{get_or-set_same, get_or-set_other, length-set
 use Rattle.dri_core.specs.Privates.{Private}
 use Rattle.dri_core.specs.Worlds.{put}
 use Rattle.dri_core.proofs.Parts.{put_keeps}
-use Rattle.dri_core.proofs.Textures.{put_cases}
+use Rattle.dri_core.proofs.Parts.{put_cases}
 use Rattle.dri_shared.specs.Holdings.{ArePlacesOf}
 
 -- a client's part changes, and its place stays
