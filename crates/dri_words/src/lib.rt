@@ -2,11 +2,13 @@
 //! which a line is refused.
 #![tactic(auto)]
 
+mod lines;
 mod parts;
 mod ranges;
 mod reason;
 mod words;
 
+pub use lines::{Refusal, is_passed_over, to_end};
 pub use parts::Parts;
 pub use ranges::{signed_within, within};
 pub use reason::Reason;
