@@ -6,10 +6,10 @@ use Rattle.dri_base.specs.declared.scene.Scene.{Scene}
 use Rattle.dri_base.specs.Planes.{plane}
 use Rattle.dri_core.specs.Runs.{after, plain}
 use Rattle.dri_shared.specs.States.{SharedState, world_of}
-use Rattle.dri_run.specs.Journals.{FitsWords, journal_text}
-use Rattle.dri_run.specs.Ppm.{ppm}
+use Rattle.dri_journal.specs.Journals.{FitsWords, journal_text}
+use Rattle.dri_ppm.specs.Ppm.{ppm}
 use Rattle.dri_run.specs.ThreadedRun.{Determines, GivesInThreads, IsJournalOf}
-use Rattle.dri_run.proofs.Spellings.{text_determines}
+use Rattle.dri_journal.proofs.Spellings.{text_determines}
 
 determines : (journal : List Entry) (text : List ℕ) → All FitsWords journal → text ≡ journal_text journal → Determines text journal
 determines journal text fits spelled = record {

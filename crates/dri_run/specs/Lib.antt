@@ -1,5 +1,3 @@
-pub mod Ppm
-pub mod Journals
 pub mod Notices
 pub mod Forms
 pub mod Gains

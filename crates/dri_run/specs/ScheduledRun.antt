@@ -11,9 +11,9 @@ use Rattle.dri_core.specs.Turns.{IsTurns}
 use Rattle.dri_sarea.specs.Images.{area_bytes}
 use Rattle.dri_shared.specs.Areas.{area_of}
 use Rattle.dri_run.specs.Gains.{GainsNothing, Sunk}
-use Rattle.dri_run.specs.Journals.{journal_text}
+use Rattle.dri_journal.specs.Journals.{journal_text}
 use Rattle.dri_run.specs.Outcome.{Says}
-use Rattle.dri_run.specs.Ppm.{ppm}
+use Rattle.dri_ppm.specs.Ppm.{ppm}
 use Rattle.dri_run.specs.declared.form.Form.{Form}
 use Rattle.dri_run.specs.declared.form.Form.TheVariants.{Turns, Sarea}
 use Rattle.dri_run.specs.declared.status.Status.{Status}

@@ -5,8 +5,8 @@ use Rattle.dri_base.specs.declared.scene.Scene.{Scene}
 use Rattle.dri_base.specs.Planes.{plane}
 use Rattle.dri_core.specs.Frames.{Own, SoloLeft}
 use Rattle.dri_core.specs.Runs.{Confined, HoldRun, Whole, after, plain}
-use Rattle.dri_run.specs.Journals.{FitsWords, journal_text}
-use Rattle.dri_run.specs.Ppm.{ppm}
+use Rattle.dri_journal.specs.Journals.{FitsWords, journal_text}
+use Rattle.dri_ppm.specs.Ppm.{ppm}
 
 -- the journal of a run of this scene to its end
 pub record IsJournalOf (scene : Scene) (journal : List Entry) : Type 0 where

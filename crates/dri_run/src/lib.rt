@@ -4,8 +4,6 @@
 mod form;
 mod notice;
 mod output;
-mod ppm;
-mod printing;
 mod reading;
 mod status;
 mod threaded;

@@ -4,17 +4,17 @@
 ghost use Rattle.std.specs.Prelude.{◌≡◌, All, IfOk};
 ghost use Rattle.std.specs.Arc.{arc_value};
 ghost use Rattle.dri_base.specs.Ranges.{InRange};
-ghost use Rattle.dri_run.specs.Journals.{FitsWords, journal_text};
-ghost use Rattle.dri_run.specs.Ppm.{ppm};
+ghost use Rattle.dri_journal.specs.Journals.{FitsWords, journal_text};
+ghost use Rattle.dri_ppm.specs.Ppm.{ppm};
 ghost use Rattle.dri_run.specs.ScheduledRun.{GivesByForm, IsRunOf, notes_of, picture_of};
 ghost use Rattle.dri_run.specs.declared.form.Form.TheVariants.{Sarea};
 
 use crate::form::Form;
-use crate::ppm::ppm;
-use crate::printing::print_journal;
 use crate::writing::Output;
 use dri_base::{Bytes, Entry, OutOfMemory, Rgb, Scene};
+use dri_journal::print_journal;
 use dri_plane::Plane;
+use dri_ppm::ppm_bytes;
 use dri_world::World;
 use std::alloc::Global;
 use std::sync::Arc;
@@ -42,7 +42,7 @@ pub fn screen_of(
     ensures notes { IfOk result (λ o. o.notes ≡ journal_text journal.now) }
     ensures fits { IfOk result (λ o. All FitsWords journal.now) }
 {
-    let picture = ppm(alloc, front.width(), front.height(), front.pixels())?;
+    let picture = ppm_bytes(alloc, front)?;
     let notes = print_journal(alloc, journal)?;
     Ok(Output { picture, notes })
 }

@@ -1,5 +1,9 @@
-//! The tests of the text of a scene.
+//! The tests of the texts of a scene and of a journal, and of pictures.
 #![tactic(auto)]
 
+#[cfg(test)]
+mod journal;
+#[cfg(test)]
+mod picture;
 #[cfg(test)]
 mod scene;

@@ -3,7 +3,7 @@ use Rattle.std.proofs.Common.{◌≡◌, List, All, ap, sym, ◌∙◌, subst, r
 use Rattle.dri_base.specs.declared.journal.Entry.{Entry}
 use Rattle.dri_base.specs.declared.scene.Scene.{Scene}
 use Rattle.dri_core.specs.Runs.{Whole, plain}
-use Rattle.dri_run.specs.Journals.{FitsWords, journal_text}
+use Rattle.dri_journal.specs.Journals.{FitsWords, journal_text}
 use Rattle.dri_run.specs.ThreadedRun.{IsJournalOf}
 use Rattle.dri_run.proofs.Threading.{gives}
 use Rattle.dri_run.proofs.threaded.threaded_output_of.Goals as goal

@@ -1,7 +1,9 @@
 //! The text of a journal: a title, one line for each entry, and `done`.
 
-ghost use Rattle.std.specs.Prelude.{◌≡◌, ◌<◌, ◌^◌, ◌++◌, [], ◌∷◌, All, IfOk, OnOk, codes};
-ghost use Rattle.dri_run.specs.Journals.{FitsWords, entry_line, journal_text, numbered, spaced};
+ghost use Rattle.std.specs.Prelude.{◌≡◌, ◌<◌, ◌^◌, ◌++◌, [], ◌∷◌, All, IfOk, Ok, OnOk, codes};
+ghost use Rattle.std.specs.List.{flat_map};
+ghost use Rattle.dri_journal.specs.Readings.{journal_of_text};
+ghost use Rattle.dri_journal.specs.Journals.{EntryInRange, FitsWords, entry_line, journal_text, numbered, spaced};
 
 use dri_base::{Bytes, Entry, OutOfMemory};
 use itoa::Buffer;
@@ -54,16 +56,26 @@ fn push_entry(bytes: &mut Vec<u8>, entry: &Entry) -> Result<(), AllocError>
     }
 }
 
-/// The text of a journal.
+/// Puts the entries' lines last.
+fn push_entries(bytes: &mut Vec<u8>, entries: &[Entry]) -> Result<(), AllocError>
+    ensures lines { OnOk result (bytes.new.items ≡ bytes.old.items ++ flat_map entry_line entries.now) }
+    ensures fit { OnOk result (All FitsWords entries.now) }
+{
+    for entry in entries {
+        push_entry(bytes, entry)?;
+    }
+    Ok(())
+}
+
+/// The text of a journal. Read again, the text of entries whose numbers are in their ranges gives the entries.
 pub fn print_journal(alloc: Global, entries: &[Entry]) -> Result<Bytes, OutOfMemory>
     ensures text { IfOk result (λ b. b ≡ journal_text entries.now) }
     ensures fits { IfOk result (λ b. All FitsWords entries.now) }
+    ensures read { IfOk result (λ b. All EntryInRange entries.now → journal_of_text b ≡ Ok entries.now) }
 {
     let mut bytes = Vec::new(alloc);
     bytes.extend_from_slice(b"journal 1\n".as_slice())?;
-    for entry in entries {
-        push_entry(&mut bytes, entry)?;
-    }
+    push_entries(&mut bytes, entries)?;
     bytes.extend_from_slice(b"done\n".as_slice())?;
     Ok(Bytes::from_vec(bytes))
 }

@@ -4,6 +4,7 @@ use Rattle.std.specs.List.{flat_map}
 use Rattle.std.specs.Fmt.{decimal}
 use Rattle.dri_base.specs.declared.journal.Entry.{Entry}
 use Rattle.dri_base.specs.declared.journal.Entry.TheVariants as entries
+use Rattle.dri_base.specs.Ranges.{IsWithin}
 
 -- a number with a space before it
 abbrev pub spaced : ℕ → List ℕ
@@ -50,3 +51,16 @@ journal_text journal = codes "journal 1\n" ++ (flat_map entry_line journal ++ co
 -- each number of an entry is one of 32 bits
 abbrev pub FitsWords : Entry → Type 0
 FitsWords e = All (λ n. n < 2 ^ 32) (entry_numbers e)
+
+-- the numbers of an entry are in the ranges of its line
+abbrev pub EntryInRange : Entry → Type 0
+EntryInRange (entries.Light client) = IsWithin 1 32 client
+EntryInRange (entries.Kernel client found) = IsWithin 1 32 client × IsWithin 0 33 found
+EntryInRange (entries.Stale client) = IsWithin 1 32 client
+EntryInRange (entries.Emit client groups) = IsWithin 1 32 client × IsWithin 1 127 groups
+EntryInRange (entries.Place client texture first count) = IsWithin 1 32 client × IsWithin 1 64 texture × IsWithin 0 63 first × IsWithin 1 64 count
+EntryInRange (entries.Run client place) = IsWithin 1 32 client × IsWithin 1 100000 place
+EntryInRange (entries.Leave client) = IsWithin 1 32 client
+EntryInRange (entries.Info client) = IsWithin 1 32 client
+EntryInRange (entries.Change place) = IsWithin 1 4096 place
+EntryInRange (entries.Gone client) = IsWithin 1 32 client

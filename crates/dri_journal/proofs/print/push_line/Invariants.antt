@@ -1,8 +1,8 @@
 -- The word and the numbers so far.
 use Rattle.std.proofs.Common.{◌≡◌, ◌<◌, ◌^◌, ◌++◌, All, take}
 use Rattle.std.specs.List.{flat_map}
-use Rattle.dri_run.specs.Journals.{spaced}
-use Rattle.dri_run.proofs.printing.push_line.Given as goal
+use Rattle.dri_journal.specs.Journals.{spaced}
+use Rattle.dri_journal.proofs.print.push_line.Given as goal
 
 abbrev pub invariant-loop-number : goal.invariant-loop-number
 invariant-loop-number l = record {

@@ -8,7 +8,7 @@ use Rattle.std.proofs.lemmas.List.Elements.{All-head, All-tail}
 use Rattle.std.proofs.lemmas.Fmt.{decimal_by_steps, decimal_injective}
 use Rattle.dri_base.specs.declared.journal.Entry.{Entry}
 use Rattle.dri_base.specs.declared.journal.Entry.TheVariants as entries
-use Rattle.dri_run.specs.Journals.{FitsWords, entry_line, entry_numbers, entry_word, journal_text, spaced}
+use Rattle.dri_journal.specs.Journals.{FitsWords, entry_line, entry_numbers, entry_word, journal_text, spaced}
 
 -- no byte is a space or a newline, nor any other below the digits
 abbrev Unmarked : List ℕ → Type 0

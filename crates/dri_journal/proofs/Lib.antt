@@ -1,0 +1,3 @@
+pub mod Spellings
+mod Accumulating
+mod ReadBack
