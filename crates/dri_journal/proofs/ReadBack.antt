@@ -145,10 +145,12 @@ form_read (entries.Emit client groups) small = rw (number_read client (decimal g
 form_read (entries.Place client texture first count) small =
     let behind_client = All-tail (λ n. n < 2 ^ 32) client (texture ∷ first ∷ count ∷ []) small in
     let behind_texture = All-tail (λ n. n < 2 ^ 32) texture (first ∷ count ∷ []) behind_client in
-    rw (number_read client (decimal texture ∷ decimal first ∷ decimal count ∷ []) (All-head (λ n. n < 2 ^ 32) client (texture ∷ first ∷ count ∷ []) small),
-        number_read texture (decimal first ∷ decimal count ∷ []) (All-head (λ n. n < 2 ^ 32) texture (first ∷ count ∷ []) behind_client),
-        number_read first (decimal count ∷ []) (All-head (λ n. n < 2 ^ 32) first (count ∷ []) behind_texture),
-        single_read count (All-tail (λ n. n < 2 ^ 32) first (count ∷ []) behind_texture)) refl
+    rw (
+      number_read client (decimal texture ∷ decimal first ∷ decimal count ∷ []) (All-head (λ n. n < 2 ^ 32) client (texture ∷ first ∷ count ∷ []) small),
+      number_read texture (decimal first ∷ decimal count ∷ []) (All-head (λ n. n < 2 ^ 32) texture (first ∷ count ∷ []) behind_client),
+      number_read first (decimal count ∷ []) (All-head (λ n. n < 2 ^ 32) first (count ∷ []) behind_texture),
+      single_read count (All-tail (λ n. n < 2 ^ 32) first (count ∷ []) behind_texture),
+    ) refl
 form_read (entries.Run client place) small = rw (number_read client (decimal place ∷ []) (All-head (λ n. n < 2 ^ 32) client (place ∷ []) small), single_read place (All-tail (λ n. n < 2 ^ 32) client (place ∷ []) small)) refl
 form_read (entries.Leave client) small = rw (single_read client small) refl
 form_read (entries.Info client) small = rw (single_read client small) refl

@@ -13,14 +13,23 @@ const WHOLE: &[u8] =
 fn read_and_printed(rt: HostRuntime) -> Result<(), Fail> {
     let entries = read_journal(rt.alloc(), WHOLE)?;
     assert_eq!(rt; entries.len(), 15);
-    assert_eq!(rt; print_journal(rt.alloc(), entries.as_slice())?.as_slice(), WHOLE);
+    assert_eq!(rt;
+        print_journal(rt.alloc(), entries.as_slice())?.as_slice(),
+        WHOLE
+    );
     Ok(())
 }
 
 #[test]
 fn passed_over(rt: HostRuntime) -> Result<(), Fail> {
-    let entries = read_journal(rt.alloc(), b"#\n\njournal 1\n# light 2\nlight 1\n\ndone\n# 1\n")?;
-    assert_eq!(rt; print_journal(rt.alloc(), entries.as_slice())?.as_slice(), b"journal 1\nlight 1\ndone\n".as_slice());
+    let entries = read_journal(
+        rt.alloc(),
+        b"#\n\njournal 1\n# light 2\nlight 1\n\ndone\n# 1\n",
+    )?;
+    assert_eq!(rt;
+        print_journal(rt.alloc(), entries.as_slice())?.as_slice(),
+        b"journal 1\nlight 1\ndone\n".as_slice()
+    );
     Ok(())
 }
 

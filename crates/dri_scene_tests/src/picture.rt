@@ -8,6 +8,7 @@ use std::process::Abort;
 use std::test::Fail;
 
 const DARK: Rgb = Rgb { r: 1, g: 2, b: 3 };
+
 const LIGHT: Rgb = Rgb {
     r: 254,
     g: 255,
@@ -33,6 +34,9 @@ fn two_colours(rt: HostRuntime) -> Result<(), Fail> {
         pixels,
     };
     let text = b"P6\n2 1\n255\n\x01\x02\x03\xfe\xff\x0a";
-    assert_eq!(rt; picture_bytes(rt.alloc(), &picture)?.as_slice(), text.as_slice());
+    assert_eq!(rt;
+        picture_bytes(rt.alloc(), &picture)?.as_slice(),
+        text.as_slice()
+    );
     Ok(())
 }

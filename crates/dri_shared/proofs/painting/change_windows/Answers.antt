@@ -13,8 +13,8 @@ returns-in-Ok-clause-ok g c = restacked (stack_after c.args.change.now c.args.bo
 pub returns-clause-ok : goal.returns-clause-ok
 returns-clause-ok g c = let ws = c.args.board.now.stack in
     when_ok c.refused.result _ _ (λ ne. stays (stack_after c.args.change.now ws) c.args.board.now c.apply.new.self c.args.card.now
-      (refused_same (refusal c.args.change.now ws) ws (changed c.args.change.now ws) c.in-Err.fault ne c.in-Err.ensures.no_window c.in-Err.ensures.out_of_range c.in-Err.ensures.already_mapped c.in-Err.ensures.not_mapped)
-      c.in-Err.ensures.err) c.refused.ensures
+    (refused_same (refusal c.args.change.now ws) ws (changed c.args.change.now ws) c.in-Err.fault ne c.in-Err.ensures.no_window c.in-Err.ensures.out_of_range c.in-Err.ensures.already_mapped c.in-Err.ensures.not_mapped)
+    c.in-Err.ensures.err) c.refused.ensures
 
 pub returns-clause-err : goal.returns-clause-err
 returns-clause-err g c = when_err c.refused.result _ (c.in-Err.ensures.err, refl)
