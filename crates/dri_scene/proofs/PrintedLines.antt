@@ -33,6 +33,7 @@ use Rattle.dri_base.specs.declared.texture.TexFormat.TheVariants as Format_is
 use Rattle.dri_base.specs.declared.texture.Texture.{Texture}
 use Rattle.dri_base.specs.Ranges.{IsWithin, IsSide, IsPlace, IsRegionSize, WindowInRange, TextureInRange, TriangleInRange, VertexInRange, ScissorInRange, IsVertexPlace}
 use Rattle.dri_base.specs.Scenes.{texel_bytes}
+use Rattle.dri_base.proofs.RegionSizes.{region_size_within}
 use Rattle.dri_words.specs.Ranges.{signed_within}
 use Rattle.dri_words.specs.Words.{◌>>=◌, number_at, colour_at, colour_alpha_at}
 use Rattle.dri_scene.specs.declared.form.CommandForm.{CommandForm}
