@@ -27,12 +27,7 @@ use Rattle.dri_core.proofs.WorkParts.{sum_stays, sum_falls, listed}
 abbrev pub age_bonus : Phase → Bool → Bool → ℕ
 age_bonus In ready left = if ready then 2 else 0
 age_bonus Dead ready left = if left then 2 else 0
-age_bonus Out ready left = 0
-age_bonus Old ready left = 0
-age_bonus Over ready left = 0
-age_bonus Ask ready left = 0
-age_bonus Asking ready left = 0
-age_bonus Ended ready left = 0
+age_bonus _ ready left = 0
 
 abbrev pub age_part : Scene → ℕ → Private → ℕ
 age_part s c p = 3 * pred p.place + age_bonus p.phase (is_ready p) (nat_le p.place (length (commands_of s c)))

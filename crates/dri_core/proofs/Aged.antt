@@ -11,7 +11,7 @@ use Rattle.dri_base.specs.declared.scene.Scene.{Scene}
 use Rattle.std.specs.Prelude.{Option, Some, None}
 use Rattle.dri_core.specs.Effects.{run_by, placed_by, taken_in, is_last}
 use Rattle.dri_core.specs.EntryTable.{LegalEntry, after_entry}
-use Rattle.dri_core.specs.Phases.{Phase, Out, Old, In, Over, Ask, Asking, Ended, Dead, phase_after, left_from, first_phase}
+use Rattle.dri_core.specs.Phases.{Phase, Old, In, Over, Ask, Asking, phase_after, left_from, first_phase}
 use Rattle.dri_core.specs.Privates.{Private}
 use Rattle.dri_core.specs.Restacks.{next_stack}
 use Rattle.dri_base.specs.Scenes.{window_of, command_at, commands_of}
@@ -28,11 +28,7 @@ abbrev pub is_aged : Phase → Bool
 is_aged Old = true
 is_aged Ask = true
 is_aged Asking = true
-is_aged Out = false
-is_aged In = false
-is_aged Over = false
-is_aged Ended = false
-is_aged Dead = false
+is_aged _ = false
 
 abbrev pub AgedIn : Scene → (ℕ → ℕ) → ℕ → Private → Type 0
 AgedIn s stamps c p = is_aged p.phase ≡ true → p.stamp ≡ stamps (window_of s c) → ⊥

@@ -33,13 +33,7 @@ use Rattle.dri_core.proofs.AgeBounds.{age_bonus, age_part, bonus_small, ages_par
 -- who has died
 abbrev pub is_dead : Phase → Bool
 is_dead Dead = true
-is_dead Out = false
-is_dead Old = false
-is_dead In = false
-is_dead Over = false
-is_dead Ask = false
-is_dead Asking = false
-is_dead Ended = false
+is_dead _ = false
 
 abbrev pub deaths : Scene → World → ℕ
 deaths s w = sum_by (λ c. one_if (is_dead (w.client c).phase)) (client_numbers s.clients)

@@ -8,7 +8,7 @@ use Rattle.dri_base.specs.declared.command.Command.TheVariants as Command_is
 use Rattle.dri_base.specs.declared.journal.Entry.{Entry}
 use Rattle.dri_base.specs.declared.journal.Entry.TheVariants as Entry_is
 use Rattle.dri_core.specs.Phases.{Phase}
-use Rattle.dri_core.specs.Phases.{Out, Old, In, Over, Ask, Asking, Ended, Dead}
+use Rattle.dri_core.specs.Phases.{Out, Old, In, Over, Ask, Asking, Ended}
 use Rattle.dri_base.specs.declared.scene.Scene.{Scene}
 use Rattle.dri_base.proofs.RangeLemmas.{IsWellFormed}
 use Rattle.dri_base.specs.Scenes.{command_at, commands_of}
@@ -30,9 +30,7 @@ has_more Old = true
 has_more In = true
 has_more Ask = true
 has_more Asking = true
-has_more Over = false
-has_more Ended = false
-has_more Dead = false
+has_more _ = false
 
 pub record Lively (s : Scene) (w : World) : Type 0 where
   -- the holder is in a phase that holds
