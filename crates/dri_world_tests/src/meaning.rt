@@ -11,10 +11,10 @@ use dri_base::{
 use dri_meaning::{
     SoloFault, a_scissor, a_triangle, bounded, central, changed_beside, changes_one_by_one,
     columns, confined, core, counted, covered_and_uncovered, covered_in_part, covered_whole, death,
-    death_of_two_windows, decided, depths, each_depth, each_setting, frames, killed_before,
+    death_of_two_windows, decided, depths, each_depth, each_setting, frames, judged, killed_before,
     killed_in_a_hold, marked, no_hold_runs, no_holds, own, own_card, rounds_end, shown_again,
-    solo_left, solo_picture, solo_pixel, stopped, turns, two_blends, two_holds, two_places,
-    two_textures, why_refused,
+    solo_left, solo_picture, solo_pixel, stamped, stopped, turns, two_blends, two_holds,
+    two_places, two_textures, why_refused,
 };
 use std::alloc::Global;
 use std::test::Fail;
@@ -22,10 +22,12 @@ use std::test::Fail;
 #[test]
 fn laws() {
     central();
+    stamped();
     confined();
     own();
     solo_left();
     decided();
+    judged();
     frames();
     counted();
     bounded();
