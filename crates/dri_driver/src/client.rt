@@ -116,6 +116,13 @@ impl Client {
         })
     }
 
+    /// Its number in the scene.
+    pub fn number(&self) -> u32
+        ensures { result ≡ self.now.number }
+    {
+        self.number
+    }
+
     /// What it is doing: dying, where it was stopped, and else the phase of its part.
     pub fn phase(&self) -> Phase
         ensures { result ≡ shown_phase self.now.dying self.now.phase }
