@@ -15,6 +15,7 @@ mod running;
 mod scripts;
 mod server_events;
 mod server_side;
+mod serving;
 mod shared;
 
 pub use answers::{Taken, Told};
