@@ -1,18 +1,19 @@
 -- How many entries can come.
 use Rattle.std.proofs.Common.{◌≡◌, ◌<◌, ◌≤◌, ◌+◌, ◌*◌, ℕ, suc, List, [], ◌∷◌, length, drop, Bool, true, false, Some, refl, sym, ap, ◌∙◌, subst, arith, inl, inr, length-drop}
-use Rattle.std.specs.Prelude.{◌⊎◌, if◌then◌else◌, nat_lt, not, pred}
-use Rattle.std.proofs.lemmas.Bool.Decides.{nat_tests}
+use Rattle.std.specs.Prelude.{◌⊎◌, if◌then◌else◌, pred}
 use Rattle.std.proofs.lemmas.List.{drop_more}
 use Rattle.std.proofs.lemmas.Option.{get_or_from_slice_get, slice_get_within}
 use Rattle.dri_base.specs.declared.command.Command.{Command}
 use Rattle.dri_base.specs.declared.command.Command.TheVariants as Command_is
 use Rattle.dri_base.specs.Scenes.{commands_of}
 use Rattle.dri_core.specs.Effects.{is_last}
-use Rattle.dri_core.specs.Phases.{Phase, Out, Old, In, Over, first_phase, phase_after}
+use Rattle.dri_core.specs.Phases.{Phase, Out, Old, In, Over, phase_after}
 use Rattle.dri_core.specs.Privates.{Private, is_ready}
 use Rattle.dri_model.specs.Groups.{is_empty}
 use Rattle.dri_driver.specs.Clients.{ClientState, part_of, next_command, script_of_client}
-use Rattle.dri_driver.specs.Kept.{GoesOn, IsKept}
+use Rattle.dri_client.specs.Kept.{GoesOn}
+use Rattle.dri_client.proofs.Keeping.{goes_after}
+use Rattle.dri_driver.specs.Kept.{IsClient}
 use Rattle.dri_driver.specs.Needs.{commands_ahead, count_ahead, entries_left, entries_to_run, left_in, need_of}
 
 pub some_ahead : (cs : List Command) → 0 < length cs → 0 < count_ahead cs
@@ -41,32 +42,19 @@ pub ahead_same : (k l : ClientState) → l.scene ≡ k.scene → l.number ≡ k.
 ahead_same k l scene number place = λ i. count_ahead (drop (pred (place i)) (commands_of (scene i) (number i)))
 
 -- a client that goes on has a command left
-pub command_left : (k : ClientState) (index : ℕ) (p : Phase) → IsKept k index → k.phase ≡ p → (p ≡ Out) ⊎ (p ≡ In) → k.place ≤ length (script_of_client k)
-command_left k index p kept is (inl out) = subst (λ q. GoesOn q k.place (length (script_of_client k))) (is ∙ out) kept.more
-command_left k index p kept is (inr acts) = subst (λ q. GoesOn q k.place (length (script_of_client k))) (is ∙ acts) kept.more
+pub command_left : (k : ClientState) (index : ℕ) (p : Phase) → IsClient k index → k.phase ≡ p → (p ≡ Out) ⊎ (p ≡ In) → k.place ≤ length (script_of_client k)
+command_left k index p client is (inl out) = subst (λ q. GoesOn q k.place (length (script_of_client k))) (is ∙ out) client.kept.more
+command_left k index p client is (inr acts) = subst (λ q. GoesOn q k.place (length (script_of_client k))) (is ∙ acts) client.kept.more
 
 in_need : (n ahead : ℕ) (p : Phase) → n ≤ 3 → 0 < ahead → (p ≡ In) ⊎ (p ≡ Old) → left_in p ahead n + 1 ≤ 3 * ahead + 4
 in_need n ahead p few some (inl acts) = rw acts (omega (arith, few, some))
 in_need n ahead p few some (inr old) = rw old (omega (arith, few, some))
 
 -- who has taken the lock can add one entry less than it needed
-pub taken_need : (k l : ClientState) (index : ℕ) → l.scene ≡ k.scene → l.number ≡ k.number → l.place ≡ k.place → (l.phase ≡ In) ⊎ (l.phase ≡ Old) → IsKept k index → k.phase ≡ Out → entries_left l + 1 ≤ need_of k
-taken_need k l index scene number place phase kept out =
+pub taken_need : (k l : ClientState) (index : ℕ) → l.scene ≡ k.scene → l.number ≡ k.number → l.place ≡ k.place → (l.phase ≡ In) ⊎ (l.phase ≡ Old) → IsClient k index → k.phase ≡ Out → entries_left l + 1 ≤ need_of k
+taken_need k l index scene number place phase client out =
     subst (λ n. left_in l.phase n (entries_to_run (part_of l)) + 1 ≤ need_of k) (sym (ahead_same k l scene number place))
-    (in_need (entries_to_run (part_of l)) (commands_ahead k) l.phase (to_run_some (part_of l)).1 (ahead_some k kept.started (command_left k index Out kept out (inl refl))) phase)
-
--- after a command that isn't the last one, and leaves it in, one is left
-pub goes_after : (command : Command) (last : Bool) (i n : ℕ) → last ≡ not (nat_lt i n) → GoesOn (phase_after (Some command) last) (i + 1) n
-goes_after Command_is.Swap last i n is = tt
-goes_after Command_is.Yield last i n is = tt
-goes_after (Command_is.Set setting) true i n is = tt
-goes_after (Command_is.Clear colour depth) true i n is = tt
-goes_after (Command_is.Triangle t) true i n is = tt
-goes_after Command_is.Die true i n is = tt
-goes_after (Command_is.Set setting) false i n is = grind (arith, nat_tests)
-goes_after (Command_is.Clear colour depth) false i n is = grind (arith, nat_tests)
-goes_after (Command_is.Triangle t) false i n is = grind (arith, nat_tests)
-goes_after Command_is.Die false i n is = grind (arith, nat_tests)
+    (in_need (entries_to_run (part_of l)) (commands_ahead k) l.phase (to_run_some (part_of l)).1 (ahead_some k client.kept.started (command_left k index Out client out (inl refl))) phase)
 
 -- a command that leaves it in is one of those ahead
 pub ahead_on : (command : Command) (last : Bool) (rest : List Command) → phase_after (Some command) last ≡ In → count_ahead (command ∷ rest) ≡ suc (count_ahead rest)
@@ -120,8 +108,3 @@ ran_falls k l command started acts next scene number place phase = by_phase (act
         let left : k.place + 1 ≤ all = subst (λ p. GoesOn p (k.place + 1) all) on (goes_after command (is_last k.scene k.number k.place) k.place all refl) in
         let some : 0 < commands_ahead l = subst (λ n. 0 < n) (sym later) (some_ahead (drop k.place (script_of_client k)) (omega (arith, left, length-drop k.place (script_of_client k)))) in
         omega (arith, old, new, more, some, (to_run_some (part_of k)).0, (to_run_some (part_of l)).1)
-
--- a script that isn't empty has a first command
-pub opened_goes : (cs : List Command) → GoesOn (first_phase cs) 1 (length cs)
-opened_goes [] = tt
-opened_goes (c ∷ cs) = omega arith

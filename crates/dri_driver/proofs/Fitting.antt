@@ -1,35 +1,38 @@
 -- What a client's events leave of its part.
-use Rattle.std.proofs.Common.{◌≡◌, ℕ, ◌+◌, ◌-◌, arith, List, Bool, refl, sym, ap, ◌∙◌, subst}
-use Rattle.std.specs.Prelude.{if◌then◌else◌, ◌==◌, not, pred}
-use Rattle.dri_base.specs.declared.journal.Entry.{Entry}
-use Rattle.dri_base.specs.declared.journal.Entry.TheVariants as Entry_is
-use Rattle.dri_base.specs.declared.scene.Scene.{Scene}
+use Rattle.std.proofs.Common.{◌≡◌, ◌+◌, ℕ, Bool, List, refl, sym, ap, ◌∙◌, subst}
+use Rattle.std.specs.Prelude.{◌==◌, not}
 use Rattle.dri_base.specs.Scenes.{window_of}
+use Rattle.dri_base.specs.declared.journal.Entry.{Entry}
+use Rattle.dri_base.specs.declared.journal.Entry.TheVariants.{Emit, Gone, Kernel, Leave, Light, Place, Run, Stale}
+use Rattle.dri_base.specs.declared.scene.Scene.{Scene}
+use Rattle.dri_core.specs.Effects.{after_leave, placed_by, run_by, taken_in}
 use Rattle.dri_core.specs.EntryTable.{after_entry}
-use Rattle.dri_core.specs.Effects.{after_leave, is_last}
-use Rattle.dri_core.specs.Phases.{Phase, In, Old, Ask, left_from}
-use Rattle.dri_core.specs.Privates.{Private, is_bound_lost}
-use Rattle.dri_model.specs.Groups.{all_where, with_bound}
-use Rattle.dri_model.specs.Heaps.{Heap, is_newer, lose}
+use Rattle.dri_core.specs.Phases.{Ask, Dead, In}
+use Rattle.dri_core.specs.Privates.{Private}
 use Rattle.dri_core.specs.Runs.{after}
-use Rattle.dri_core.specs.Worlds.{World, put}
+use Rattle.dri_core.specs.Worlds.{World}
 use Rattle.dri_core.proofs.Laws.{after-push}
 use Rattle.dri_core.proofs.Parts.{put_here}
-use Rattle.dri_shared.specs.Sides.{Makes, MayMake, client_at, value_at, world_at}
+use Rattle.dri_model.specs.Groups.{no_groups}
+use Rattle.dri_model.specs.Heaps.{Heap}
+use Rattle.dri_client.specs.Parts.{Agrees, PartState, part_after}
+use Rattle.dri_shared.specs.Sides.{Makes, client_at, value_at, world_at}
 use Rattle.dri_shared.specs.States.{Added, SharedState, world_of}
 use Rattle.dri_shared.specs.declared.client_side.ClientSide.{ClientSide}
-use Rattle.dri_driver.specs.Checks.{caught_up}
-use Rattle.dri_driver.specs.Clients.{ClientState, part_of}
+use Rattle.dri_driver.specs.Clients.{ClientState, copy_of, kept_of, part_of}
 use Rattle.dri_driver.specs.Fits.{Fits, HasMade, IsSameClient}
 
--- parts with the same fields
-pub same_part : (p q : Private) → p.place ≡ q.place → p.phase ≡ q.phase → p.stamp ≡ q.stamp → p.copy ≡ q.copy → p.origin ≡ q.origin → p.state ≡ q.state → p.dirty ≡ q.dirty → p.placed ≡ q.placed → p.local ≡ q.local → p ≡ q
-same_part p q place phase stamp copy origin state dirty placed local =
-    λ i. record { place = place i; phase = phase i; stamp = stamp i; copy = copy i; origin = origin i; state = state i; dirty = dirty i; placed = placed i; local = local i }
+-- a client's part without copies agrees with its whole part
+pub agreed : (k : ClientState) (q : Private) → part_of k ≡ q → Agrees (kept_of k) q
+agreed k q is = λ i. record (is i) { copy = q.copy; origin = q.origin }
 
--- a part that is changed by itself alone
-pub by_part : (k : ClientState) (w : World) (f : Private → Private) → part_of k ≡ w.client k.number → f (part_of k) ≡ put w.client k.number (f (w.client k.number)) k.number
-by_part k w f part = ap f part ∙ sym (put_here w.client k.number (f (w.client k.number)))
+-- and so does that of a client which is this one
+pub agreed_in : (k m : ClientState) (q : Private) → m ≡ k → part_of k ≡ q → Agrees (kept_of m) q
+agreed_in k m q same is = agreed m q (ap part_of same ∙ is)
+
+-- a part that agrees, with its copies, is the whole part
+pub whole : (k : ClientState) (q : Private) → Agrees (kept_of k) q → copy_of k.clips ≡ q.copy → k.origin ≡ q.origin → part_of k ≡ q
+whole k q agrees copy origin = λ i. record (agrees i) { copy = copy i; origin = origin i }
 
 -- the world after one entry more
 pub world_added : (v u : SharedState) (e : Entry) → Added v u e → world_of u ≡ after_entry v.scene (world_of v) e
@@ -37,7 +40,7 @@ world_added v u e added =
     ap (λ (s : Scene). after s u.journal) added.scene ∙ (ap (λ (j : List Entry). after v.scene j) added.journal ∙ after-push v.scene v.journal e)
 
 -- the client fits what its event leaves, where its part is what the table says
-pub made : (k l : ClientState) (a b : ClientSide) (e : Entry) → Fits k (value_at a) → Makes a b e → IsSameClient k l → part_of l ≡ (after_entry k.scene (world_at a) e).client k.number → HasMade k l a b e
+pub made : (k l : ClientState) (a b : ClientSide) (e : Entry) → Fits k (value_at a) → Makes a b e → IsSameClient k l → part_of l ≡ part_after k.scene (world_at a) e k.number → HasMade k l a b e
 made k l a b e fits makes same part = record {
   makes = makes;
   fits = record {
@@ -47,53 +50,77 @@ made k l a b e fits makes same part = record {
   same = same;
 }
 
--- an entry that is legal for the client of the side
-pub at_client : (f : ℕ → Entry) (a : ClientSide) (c : ℕ) → client_at a ≡ c → MayMake a (f c) → MayMake a (f (client_at a))
-at_client f a c is legal = subst (λ n. MayMake a (f n)) (sym is) legal
-
+-- an entry that is made for the client of the side
 pub makes_at : (f : ℕ → Entry) (a b : ClientSide) (c : ℕ) → client_at a ≡ c → Makes a b (f (client_at a)) → Makes a b (f c)
 makes_at f a b c is makes = subst (λ n. Makes a b (f n)) is makes
 
-module _ (k : ClientState) (a b : ClientSide) (fits : Fits k (value_at a)) where
-  pub same_as : (p : Phase) → IsSameClient k (record k { phase = p })
-  same_as p = record { scene = refl; number = refl; dying = refl }
+-- an entry that leaves its client's copies: the part after it is this one, which has them
+pub record KeepsCopies (s : Scene) (w : World) (e : Entry) (c : ℕ) : Type 0 where
+  pub copy : (part_after s w e c).copy ≡ (w.client c).copy
+  pub origin : (part_after s w e c).origin ≡ (w.client c).origin
 
-  pub light_made : (l : ClientState) → l ≡ record k { phase = In } → Makes a b (Entry_is.Light k.number) → HasMade k l a b (Entry_is.Light k.number)
-  light_made l is makes = subst (λ (m : ClientState). HasMade k m a b (Entry_is.Light k.number)) (sym is)
-      (made k (record k { phase = In }) a b (Entry_is.Light k.number) fits makes (same_as In) (by_part k (world_at a) (λ p. record p { phase = In }) fits.part))
+pub keeps_copies : (s : Scene) (w : World) (e : Entry) (c : ℕ) (q : Private) → part_after s w e c ≡ q → q.copy ≡ (w.client c).copy → q.origin ≡ (w.client c).origin → KeepsCopies s w e c
+keeps_copies s w e c q is copy origin = record { copy = ap (λ (p : Private). p.copy) is ∙ copy; origin = ap (λ (p : Private). p.origin) is ∙ origin }
 
-  pub stale_made : (l : ClientState) → l ≡ record k { phase = Ask } → Makes a b (Entry_is.Stale k.number) → HasMade k l a b (Entry_is.Stale k.number)
-  stale_made l is makes = subst (λ (m : ClientState). HasMade k m a b (Entry_is.Stale k.number)) (sym is)
-      (made k (record k { phase = Ask }) a b (Entry_is.Stale k.number) fits makes (same_as Ask) (by_part k (world_at a) (λ p. record p { phase = Ask }) fits.part))
+-- what a step leaves of a client but for its part
+pub record IsSameBut (k l : ClientState) : Type 0 where
+  pub same : IsSameClient k l
+  pub clips : l.clips ≡ k.clips
+  pub origin : l.origin ≡ k.origin
 
-  pub leave_made : (l : ClientState) → l ≡ record k { phase = after_leave k.scene k.number (part_of k) } → Makes a b (Entry_is.Leave k.number) → HasMade k l a b (Entry_is.Leave k.number)
-  leave_made l is makes = subst (λ (m : ClientState). HasMade k m a b (Entry_is.Leave k.number)) (sym is)
-      (made k (record k { phase = after_leave k.scene k.number (part_of k) }) a b (Entry_is.Leave k.number) fits makes (same_as (after_leave k.scene k.number (part_of k)))
-      (by_part k (world_at a) (λ p. record p { phase = after_leave k.scene k.number p }) fits.part))
+-- a client with another part
+abbrev pub with_part : ClientState → PartState → ClientState
+with_part k p = record k { place = p.place; phase = p.phase; stamp = p.stamp; state = p.state; dirty = p.dirty; placed = p.placed; local = p.local }
 
-  -- the kernel let it in, and it has caught up
-  pub kernel_made : (m l : ClientState) (found age : ℕ) (h : Heap) (new_owner : Bool) (p : Phase) → client_at a ≡ k.number → l ≡ record m { phase = p } → part_of m ≡ caught_up h new_owner age (part_of k) → IsSameClient k m
-      → h ≡ (world_at b).heap → new_owner ≡ not ((world_at a).owner == client_at a + 1) → age ≡ (world_at a).heap.global → p ≡ (if m.stamp == (world_at a).stamps (window_of (value_at a).scene (client_at a)) then In else Old)
-      → Makes a b (Entry_is.Kernel (client_at a) found) → HasMade k l a b (Entry_is.Kernel k.number found)
-  kernel_made m l found age h new_owner p here is part same heap owner global phase makes =
-      made k l a b (Entry_is.Kernel k.number found) fits (makes_at (λ n. Entry_is.Kernel n found) a b k.number here makes)
-      (record { scene = ap (λ (x : ClientState). x.scene) is ∙ same.scene; number = ap (λ (x : ClientState). x.number) is ∙ same.number; dying = ap (λ (x : ClientState). x.dying) is ∙ same.dying })
-      (ap part_of is ∙ (ap (λ (q : Private). record q { phase = p }) part ∙ (told_all ∙ by_part k (world_at a) (λ q. let f = is_newer (world_at a).heap q.local in record q {
-        phase = if q.stamp == (world_at a).stamps (window_of k.scene k.number) then In else Old;
-        dirty = with_bound (is_bound_lost q f) (all_where (not ((world_at a).owner == k.number + 1)) q.dirty);
-        placed = λ t. lose f (q.placed t);
-        local = (world_at a).heap.global;
-      }) fits.part)))
-    where
-      heap_same : h ≡ (world_at a).heap
-      heap_same = heap ∙ ap (λ (w : World). w.heap) (world_added (value_at a) (value_at b) (Entry_is.Kernel (client_at a) found) makes.added)
+pub same_but : (k m : ClientState) (p : PartState) → m ≡ k → IsSameBut k (with_part m p)
+same_but k m p is = record {
+  same = record { scene = ap (λ (x : ClientState). x.scene) is; number = ap (λ (x : ClientState). x.number) is; dying = ap (λ (x : ClientState). x.dying) is };
+  clips = ap (λ (x : ClientState). x.clips) is;
+  origin = ap (λ (x : ClientState). x.origin) is;
+}
 
-      phase_same : p ≡ (if k.stamp == (world_at a).stamps (window_of k.scene k.number) then In else Old)
-      phase_same = phase ∙ (ap (λ (x : Private). if x.stamp == (world_at a).stamps (window_of (value_at a).scene (client_at a)) then In else Old) part ∙ (λ i. if k.stamp == (world_at a).stamps (window_of (sym fits.scene i) (here i)) then In else Old))
+-- the client's whole part after a step that leaves its copies
+pub stepped : (k l : ClientState) (w : World) (e : Entry) → part_of k ≡ w.client k.number → l.clips ≡ k.clips → l.origin ≡ k.origin → KeepsCopies k.scene w e k.number → Agrees (kept_of l) (part_after k.scene w e k.number) → part_of l ≡ part_after k.scene w e k.number
+stepped k l w e part clips origin copies agrees = whole l (part_after k.scene w e k.number) agrees
+    (ap copy_of clips ∙ (ap (λ (p : Private). p.copy) part ∙ sym copies.copy))
+    (origin ∙ (ap (λ (p : Private). p.origin) part ∙ sym copies.origin))
 
-      told_all : record (caught_up h new_owner age (part_of k)) { phase = p } ≡ record (caught_up (world_at a).heap (not ((world_at a).owner == k.number + 1)) (world_at a).heap.global (part_of k)) { phase = if k.stamp == (world_at a).stamps (window_of k.scene k.number) then In else Old }
-      told_all = λ i. record (caught_up (heap_same i) ((owner ∙ ap (λ n. not ((world_at a).owner == n + 1)) here) i) (global i) (part_of k)) { phase = phase_same i }
+-- the client has made its event by such a step
+pub step_made : (k l : ClientState) (a b : ClientSide) (e : Entry) → Fits k (value_at a) → Makes a b e → IsSameBut k l → KeepsCopies k.scene (world_at a) e k.number → Agrees (kept_of l) (part_after k.scene (world_at a) e k.number) → HasMade k l a b e
+step_made k l a b e fits makes same copies agrees = made k l a b e fits makes same.same (stepped k l (world_at a) e fits.part same.clips same.origin copies agrees)
 
--- the phase that it is left in
-pub left_phase : (k : ClientState) (p : Phase) (last : Bool) (n : ℕ) → last ≡ is_last k.scene k.number n → n ≡ k.place - 1 → p ≡ left_from k.phase last → p ≡ after_leave k.scene k.number (part_of k)
-left_phase k p last n last_is n_is is = let e : n ≡ pred k.place = omega (arith, n_is) in is ∙ ap (left_from k.phase) (last_is ∙ ap (is_last k.scene k.number) e)
+-- the entries that leave their client's copies
+module _ (s : Scene) (w : World) (c : ℕ) where
+  pub light_copies : KeepsCopies s w (Light c) c
+  light_copies = let q = record (w.client c) { phase = In } in keeps_copies s w (Light c) c q (put_here w.client c q) refl refl
+
+  pub kernel_copies : (found : ℕ) → KeepsCopies s w (Kernel c found) c
+  kernel_copies found = keeps_copies s w (Kernel c found) c (taken_in s w c) (put_here w.client c (taken_in s w c)) refl refl
+
+  pub stale_copies : KeepsCopies s w (Stale c) c
+  stale_copies = let q = record (w.client c) { phase = Ask } in keeps_copies s w (Stale c) c q (put_here w.client c q) refl refl
+
+  pub leave_copies : KeepsCopies s w (Leave c) c
+  leave_copies = let q = record (w.client c) { phase = after_leave s c (w.client c) } in keeps_copies s w (Leave c) c q (put_here w.client c q) refl refl
+
+  pub emit_copies : (groups : ℕ) → KeepsCopies s w (Emit c groups) c
+  emit_copies groups = let q = record (w.client c) { dirty = no_groups } in keeps_copies s w (Emit c groups) c q (put_here w.client c q) refl refl
+
+  pub place_copies : (t first count : ℕ) → KeepsCopies s w (Place c t first count) c
+  place_copies t first count = let q = placed_by s w c t first count in keeps_copies s w (Place c t first count) c q (put_here w.client c q) refl refl
+
+  pub run_copies : (i : ℕ) → KeepsCopies s w (Run c i) c
+  run_copies i = keeps_copies s w (Run c i) c (run_by s w c i) (put_here w.client c (run_by s w c i)) refl refl
+
+  pub gone_copies : KeepsCopies s w (Gone c) c
+  gone_copies = let q = record (w.client c) { phase = Dead } in keeps_copies s w (Gone c) c q (put_here w.client c q) refl refl
+
+-- the part of a client that the kernel let in, where the side tells the regions, the stamp and the owner
+pub kernel_told : (k : ClientState) (a b : ClientSide) (found : ℕ) (h : Heap) (stamp : ℕ) (owner : Bool) (new : PartState) → client_at a ≡ k.number → Fits k (value_at a) → Makes a b (Kernel k.number found) → h ≡ (world_at b).heap
+    → stamp ≡ (world_at a).stamps (window_of (value_at a).scene (client_at a)) → owner ≡ not ((world_at a).owner == client_at a + 1)
+    → (h ≡ (world_at a).heap → stamp ≡ (world_at a).stamps (window_of k.scene k.number) → owner ≡ not ((world_at a).owner == k.number + 1) → Agrees new (part_after k.scene (world_at a) (Kernel k.number found) k.number))
+    → Agrees new (part_after k.scene (world_at a) (Kernel k.number found) k.number)
+kernel_told k a b found h stamp owner new here fits makes heap stamped owned agrees = agrees
+    (heap ∙ ap (λ (x : World). x.heap) (world_added (value_at a) (value_at b) (Kernel k.number found) makes.added))
+    (stamped ∙ (λ i. (world_at a).stamps (window_of (sym fits.scene i) (here i))))
+    (owned ∙ ap (λ n. not ((world_at a).owner == n + 1)) here)

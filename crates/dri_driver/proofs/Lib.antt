@@ -1,7 +1,6 @@
 pub mod Copied
 mod Counts
 pub mod Fitting
-mod Losses
 mod Owned
 mod Preparing
 mod Steps

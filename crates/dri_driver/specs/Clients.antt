@@ -10,7 +10,7 @@ use Rattle.dri_core.specs.Privates.{Private}
 use Rattle.dri_model.specs.Groups.{Groups}
 use Rattle.dri_model.specs.Heaps.{Run}
 use Rattle.dri_rect.specs.Pixels.{inside}
-use Rattle.dri_texheap.specs.Placements.{placed_of}
+use Rattle.dri_client.specs.Parts.{PartState, private_of}
 
 -- what a client keeps
 pub record ClientState : Type 0 where
@@ -39,19 +39,21 @@ pub record ClientState : Type 0 where
 abbrev pub copy_of : List Rect → ℕ → ℕ → Bool
 copy_of clips x y = inside clips (pos x) (pos y)
 
--- the private part that this is
-abbrev pub part_of : ClientState → Private
-part_of k = record {
+-- what of it is a part without copies
+abbrev pub kept_of : ClientState → PartState
+kept_of k = record {
   place = k.place;
   phase = k.phase;
   stamp = k.stamp;
-  copy = copy_of k.clips;
-  origin = k.origin;
   state = k.state;
   dirty = k.dirty;
-  placed = placed_of k.placed;
+  placed = k.placed;
   local = k.local;
 }
+
+-- the private part that this is
+abbrev pub part_of : ClientState → Private
+part_of k = private_of (kept_of k) (copy_of k.clips) k.origin
 
 -- its script
 abbrev pub script_of_client : ClientState → List Command

@@ -1,10 +1,8 @@
 pub mod Shown
-pub mod Activities
 pub mod Clients
 pub mod Kept
 pub mod Needs
 pub mod Fits
 pub mod Opening
 pub mod Acts
-pub mod Textures
 pub mod Checks

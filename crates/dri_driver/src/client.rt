@@ -1,14 +1,13 @@
-//! A client: its number and script in the scene, and its private part. The place counts the script's commands from 1.
-//! What it is doing is kept apart from whether it is dying, since a client that was stopped stands in the world as
-//! before. Its clips are a region of its own, which a told client takes over; textures, commands and planes are never
-//! copied.
+//! A client: its number and script in the scene, its private part, and the copies of its window's clips and origin that
+//! the part is without. Whether it is dying is kept apart from what it is doing, since a client that was stopped stands
+//! in the world as before. Its clips are a region of its own, which a told client takes over; textures, commands and
+//! planes are never copied.
 
 ghost use Rattle.std.specs.Prelude.{◌≡◌, ◌⊎◌, [], Contains, IfOk, false, true};
 ghost use Rattle.std.specs.Arc.{arc_value};
 ghost use Rattle.dri_base.specs.Ranges.{InRange, client_numbers};
 ghost use Rattle.dri_base.specs.Scenes.{commands_of, script_of};
 ghost use Rattle.dri_base.specs.declared.journal.Entry.TheVariants.{Gone, Info};
-ghost use Rattle.dri_core.specs.Effects.{is_last};
 ghost use Rattle.dri_core.specs.Phases.{Asking, Dead, Out};
 ghost use Rattle.dri_core.specs.Privates.{opening_part};
 ghost use Rattle.dri_shared.specs.Copies.{IsCopyOf, IsToldOf, corner};
@@ -21,24 +20,18 @@ ghost use Rattle.dri_driver.specs.Shown.{shown_phase};
 mod act;
 mod prepare;
 mod run;
-mod script;
 mod take;
-mod textures;
 
-use crate::phase::{Activity, Phase};
+use crate::ahead::commands_ahead;
+use crate::phase::{Phase, shown};
 use dri_base::{ClientScript, Command, OutOfMemory, Point, Scene, Steps};
-use dri_context::ContextState;
+use dri_client::{ClientPart, place_of};
 use dri_rect::Region;
 use dri_shared::Told;
-use dri_texheap::Placed;
-use script::{commands_ahead, index_of};
 use std::alloc::Global;
 use std::marker::{Brand, Model};
 use std::sync::Arc;
 use std::sync::ledger::{Blank, Ledger};
-
-/// How many textures a client can have: their numbers are 1 to 64.
-const TEXTURES: u32 = 64;
 
 /// What one client keeps. Contracts see its scene and its number, whether it is dying, and its private part.
 #[derive(Drop)]
@@ -47,14 +40,9 @@ pub struct Client {
     index: usize,
     number: u32,
     is_dying: bool,
-    activity: Activity,
-    place: u32,
-    stamp: u32,
     clips: Region,
     origin: Point,
-    context: ContextState,
-    placed: Placed,
-    local: u32,
+    part: ClientPart,
 }
 
 impl Model for Client {
@@ -62,28 +50,21 @@ impl Model for Client {
 
     ghost Value = { ClientState };
 
-    ghost use Rattle.dri_driver.specs.Kept.{state_of, IsKept};
+    ghost use Rattle.dri_driver.specs.Kept.{state_of, IsClient};
 
     ghost view = { state_of };
 
-    ghost invariant = { λ c. IsKept (state_of c) c.index };
+    ghost invariant = { λ c. IsClient (state_of c) c.index };
 }
 
-// The empty copy counts no step, and its call wants a counter.
-fn no_clips_counted<L: Ledger>(blank: Blank, alloc: Global) -> Region
+/// The empty copy of clips that a client begins with. It counts no step, and its call wants a counter.
+fn no_clips<L: Ledger>(blank: Blank, alloc: Global) -> Region
     requires name { blank.name ≡ L.name }
     requires parts { blank.parts ≡ L.parts }
     requires one { L.parts ≡ 1 }
     ensures { result ≡ [] }
 {
     Region::empty(alloc, &mut Steps::<L>::new(blank))
-}
-
-/// The empty copy of clips that a client begins with.
-fn no_clips(alloc: Global) -> Region
-    ensures { result ≡ [] }
-{
-    no_clips_counted::<Brand>(Blank::new(1), alloc)
 }
 
 impl Client {
@@ -97,22 +78,18 @@ impl Client {
         ensures living { IfOk result (λ made. made.dying ≡ false) }
         ensures part { IfOk result (λ made. part_of made ≡ opening_part (commands_of (arc_value scene) client)) }
     {
-        let placed = Placed::new(alloc, TEXTURES)?;
-        let index = index_of(scene.clients.as_slice(), client);
-        let activity = Activity::first(scene.clients.get(index).commands.as_slice());
+        let Some(index) = place_of(scene.clients.as_slice(), client) else {
+            unreachable!();
+        };
+        let part = ClientPart::new(alloc, scene.clients.get(index))?;
         Ok(Client {
             scene,
             index,
             number: client,
             is_dying: false,
-            activity,
-            place: 1,
-            stamp: 0,
-            clips: no_clips(alloc),
+            clips: no_clips::<Brand>(Blank::new(1), alloc),
             origin: Point { x: 0, y: 0 },
-            context: ContextState::new(),
-            placed,
-            local: 0,
+            part,
         })
     }
 
@@ -127,7 +104,7 @@ impl Client {
     pub fn phase(&self) -> Phase
         ensures { result ≡ shown_phase self.now.dying self.now.phase }
     {
-        self.activity.shown(self.is_dying)
+        shown(self.part.activity(), self.is_dying)
     }
 
     /// The most entries that its next hold can add: 3 for each command up to the next swap, yield or end, and 4 more.
@@ -138,7 +115,7 @@ impl Client {
             .script()
             .commands
             .as_slice()
-            .split_at(self.place as usize - 1);
+            .split_at(self.part.place() as usize - 1);
         3 * commands_ahead(ahead) + 4
     }
 
@@ -155,10 +132,9 @@ impl Client {
             origin,
             clips,
         } = told;
-        self.stamp = stamp;
+        self.part.told(stamp);
         self.origin = origin;
         self.clips = clips;
-        self.activity = Activity::Out;
     }
 
     /// It is stopped, and only its death is left. It holds nothing and hasn't ended.
@@ -176,7 +152,7 @@ impl Client {
         ensures fits { (v w : SharedState) → Fits self.old v → Added v w (Gone self.old.number) → Fits self.new w }
     {
         self.is_dying = false;
-        self.activity = Activity::Dead;
+        self.part.gone();
     }
 
     // Its script.
@@ -186,21 +162,10 @@ impl Client {
         self.scene.clients.get(self.index)
     }
 
-    // Whether a place is its last command's, or comes behind it.
-    fn is_last(&self, place: u32) -> bool
-        ensures { result ≡ is_last self.now.scene self.now.number place }
-    {
-        self.script().commands.len() <= place as usize
-    }
-
     // Its next command, where one is left.
     fn next_command(&self) -> Option<Command>
         ensures { result ≡ next_command self.now }
     {
-        self.script()
-            .commands
-            .as_slice()
-            .get(self.place as usize - 1)
-            .copied()
+        self.part.next_command(self.script())
     }
 }

@@ -4,6 +4,7 @@
 //! lock up; the client says what comes next, and keeps its part as the journal leaves it.
 #![tactic(auto)]
 
+mod ahead;
 mod answers;
 mod client;
 mod opening;

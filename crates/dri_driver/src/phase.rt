@@ -1,12 +1,11 @@
-//! The phases of a client: the nine that it shows, and the eight that it keeps. A client that was stopped shows that it
-//! is dying, and keeps what it was doing, since its part of the world stays as it was until its death.
+//! The nine phases that a client shows. A client that was stopped shows that it is dying, and keeps what it was doing,
+//! since its part of the world stays as it was until its death.
 
-ghost use Rattle.std.specs.Prelude.{◌≡◌, Some, if◌then◌else◌};
-ghost use Rattle.dri_core.specs.Phases.{first_phase, phase_after, left_from, Old, In};
-ghost use Rattle.dri_driver.specs.Activities.{phase_in};
+ghost use Rattle.std.specs.Prelude.{◌≡◌};
+ghost use Rattle.dri_client.specs.Activities.{phase_in};
 ghost use Rattle.dri_driver.specs.Shown.{shown_phase};
 
-use dri_base::Command;
+use dri_client::Activity;
 
 /// What a client shows that it is doing.
 #[derive(Clone, Copy, Debug, PartialEq, Eq)]
@@ -31,90 +30,21 @@ pub enum Phase {
     Dead,
 }
 
-/// What a client is doing, whether it is dying or not.
-#[derive(Clone, Copy, Debug, PartialEq, Eq)]
-pub(crate) enum Activity {
-    Out,
-    Old,
-    In,
-    Over,
-    Ask,
-    Asking,
-    Ended,
-    Dead,
-}
-
-impl Activity {
-    /// That of a client which hasn't begun: out, or ended where its script is empty.
-    pub(crate) fn first(commands: &[Command]) -> Activity
-        ensures { phase_in result ≡ first_phase commands.now }
-    {
-        if commands.is_empty() {
-            Activity::Ended
-        } else {
-            Activity::Out
-        }
+/// The phase that a client shows, which is doing this and is dying or not.
+pub(crate) fn shown(activity: Activity, is_dying: bool) -> Phase
+    ensures { result ≡ shown_phase is_dying (phase_in activity) }
+{
+    if is_dying {
+        return Phase::Dying;
     }
-
-    /// That of a client which the kernel let in.
-    pub(crate) fn taken(is_stale: bool) -> Activity
-        ensures { phase_in result ≡ (if is_stale then Old else In) }
-    {
-        if is_stale {
-            Activity::Old
-        } else {
-            Activity::In
-        }
-    }
-
-    /// That of a client which ran a command, the last one or not.
-    pub(crate) fn ran(command: &Command, is_last: bool) -> Activity
-        ensures { phase_in result ≡ phase_after (Some command.now) is_last }
-    {
-        match command {
-            Command::Swap | Command::Yield => Activity::Over,
-            _ => {
-                if is_last {
-                    Activity::Over
-                } else {
-                    Activity::In
-                }
-            }
-        }
-    }
-
-    /// That of a client which leaves, with no command left or some.
-    pub(crate) fn left(self, is_last: bool) -> Activity
-        ensures { phase_in result ≡ left_from (phase_in self) is_last }
-    {
-        match self {
-            Activity::Ask => Activity::Asking,
-            _ => {
-                if is_last {
-                    Activity::Ended
-                } else {
-                    Activity::Out
-                }
-            }
-        }
-    }
-
-    /// The phase that it shows.
-    pub(crate) fn shown(self, is_dying: bool) -> Phase
-        ensures { result ≡ shown_phase is_dying (phase_in self) }
-    {
-        if is_dying {
-            return Phase::Dying;
-        }
-        match self {
-            Activity::Out => Phase::Out,
-            Activity::Old => Phase::Old,
-            Activity::In => Phase::In,
-            Activity::Over => Phase::Over,
-            Activity::Ask => Phase::Ask,
-            Activity::Asking => Phase::Asking,
-            Activity::Ended => Phase::Ended,
-            Activity::Dead => Phase::Dead,
-        }
+    match activity {
+        Activity::Out => Phase::Out,
+        Activity::Old => Phase::Old,
+        Activity::In => Phase::In,
+        Activity::Over => Phase::Over,
+        Activity::Ask => Phase::Ask,
+        Activity::Asking => Phase::Asking,
+        Activity::Ended => Phase::Ended,
+        Activity::Dead => Phase::Dead,
     }
 }

@@ -12,8 +12,8 @@ ghost use Rattle.dri_driver.specs.Needs.{entries_left};
 
 use super::Client;
 use crate::answers::Acted;
-use crate::phase::Activity;
 use dri_base::{Command, Entry, Triangle};
+use dri_client::Activity;
 use dri_shared::ClientSide;
 
 impl Client {
@@ -36,7 +36,7 @@ impl Client {
         ensures kept { UnlessRan result (self.new ≡ self.old) }
         ensures side_kept { UnlessRan result (side.new ≡ side.old) }
     {
-        match (self.activity, self.next_command()) {
+        match (self.part.activity(), self.next_command()) {
             (Activity::Over, Some(_)) => Acted::MustLeave,
             (Activity::Over, None) => Acted::Done,
             (_, Some(Command::Die)) => Acted::Dies,
@@ -78,10 +78,10 @@ impl Client {
         requires next { next_command self.old ≡ Some (Command.Triangle triangle.now) }
         ensures { IsStep self.old self.new side.old side.new result }
     {
-        match self.missing_texture() {
+        match self.part.missing_texture() {
             Some(texture) => self.place(side, texture),
             None => {
-                if self.context.dirty().is_empty() {
+                if self.part.dirty().is_empty() {
                     self.triangle(side, triangle)
                 } else {
                     self.emit(side)

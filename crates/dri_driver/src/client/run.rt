@@ -1,29 +1,22 @@
 //! Running the client's next command, one function for each kind.
 
-ghost use Rattle.std.specs.Prelude.{◌≡◌, ◌+◌, ◌<◌, ◌≤◌, Some, true};
-ghost use Rattle.dri_core.specs.Effects.{is_last};
-ghost use Rattle.dri_core.specs.Phases.{In, phase_after};
+ghost use Rattle.std.specs.Prelude.{◌≡◌, ◌<◌, ◌≤◌, Some, true};
+ghost use Rattle.dri_core.specs.EntryTable.{after_entry};
+ghost use Rattle.dri_core.specs.Phases.{In};
 ghost use Rattle.dri_core.specs.Privates.{is_ready};
+ghost use Rattle.dri_core.specs.Worlds.{World};
 ghost use Rattle.dri_model.specs.Groups.{is_empty};
 ghost use Rattle.dri_shared.specs.Sides.{client_at, value_at};
 ghost use Rattle.dri_texheap.specs.RegionStates.{heap_of};
+ghost use Rattle.dri_client.specs.Parts.{part_after};
 ghost use Rattle.dri_driver.specs.Acts.{IsStep};
 ghost use Rattle.dri_driver.specs.Clients.{next_command, part_of};
-ghost use Rattle.dri_driver.specs.Fits.{Fits};
-ghost use Rattle.dri_driver.specs.Textures.{age_known};
+ghost use Rattle.dri_driver.specs.Fits.{Fits, IsSameClient};
 
 use super::Client;
-use crate::phase::Activity;
 use dri_base::{Command, Entry, Rgb, Setting, Triangle};
 use dri_shared::ClientSide;
 use dri_texheap::Regions;
-
-// The age up to which the client knows the regions, where it has used some of them or none.
-fn age_known(regions: &Regions, local: u32, is_used: bool) -> u32
-    ensures { result ≡ age_known (heap_of regions.now) local is_used }
-{
-    if is_used { regions.age() } else { local }
-}
 
 impl Client {
     // Makes a setting.
@@ -36,8 +29,7 @@ impl Client {
         ensures { IsStep self.old self.new side.old side.new result }
     {
         side.set();
-        self.context.set(setting);
-        self.advance(&Command::Set(*setting))
+        self.ran(side.regions(), &Command::Set(*setting))
     }
 
     // Clears back and depth in its clips.
@@ -50,7 +42,7 @@ impl Client {
         ensures { IsStep self.old self.new side.old side.new result }
     {
         side.clear(&self.clips);
-        self.advance(&Command::Clear { colour, depth })
+        self.ran(side.regions(), &Command::Clear { colour, depth })
     }
 
     // Draws a triangle in its clips. A texture that it needs is placed, and nothing is dirty. With the texture it uses
@@ -65,11 +57,9 @@ impl Client {
         requires clean { is_empty self.old.dirty ≡ true }
         ensures { IsStep self.old self.new side.old side.new result }
     {
-        let run = self.used_run();
-        let is_textured = run.is_some();
+        let run = self.part.used_run();
         side.triangle(&self.clips, self.origin, run);
-        self.local = age_known(side.regions(), self.local, is_textured);
-        self.advance(&Command::Triangle(*triangle))
+        self.ran(side.regions(), &Command::Triangle(*triangle))
     }
 
     // Swaps: what it drew is shown in its clips.
@@ -82,7 +72,7 @@ impl Client {
         ensures { IsStep self.old self.new side.old side.new result }
     {
         side.swap(&self.clips);
-        self.advance(&Command::Swap)
+        self.ran(side.regions(), &Command::Swap)
     }
 
     // Yields.
@@ -95,20 +85,20 @@ impl Client {
         ensures { IsStep self.old self.new side.old side.new result }
     {
         side.yielded();
-        self.advance(&Command::Yield)
+        self.ran(side.regions(), &Command::Yield)
     }
 
-    // Goes on to the command behind one that was run, and answers that one's entry.
-    fn advance(&mut self, command: &Command) -> Entry
+    // Its part follows a command that was run and left the regions so. It answers the run's entry.
+    fn ran(&mut self, regions: &Regions, command: &Command) -> Entry
         requires { next_command self.old ≡ Some command.now }
         ensures started { 0 < self.old.place }
         ensures entry { result ≡ Entry.Run self.old.number self.old.place }
-        ensures client { self.new ≡ record self.old { place = self.old.place + 1; phase = phase_after (Some command.now) (is_last self.old.scene self.old.number self.old.place) } }
+        ensures same { IsSameClient self.old self.new }
+        ensures part { (w : World) → part_of self.old ≡ w.client self.old.number → heap_of regions.now ≡ (after_entry self.old.scene w (Entry.Run self.old.number self.old.place)).heap → part_of self.new ≡ part_after self.old.scene w (Entry.Run self.old.number self.old.place) self.old.number }
     {
-        let place = self.place;
-        let is_last = self.is_last(place);
-        self.place += 1;
-        self.activity = Activity::ran(command, is_last);
+        let place = self.part.place();
+        let script = self.scene.clients.get(self.index);
+        self.part.run(script, command, regions);
         Entry::Run {
             client: self.number,
             place,

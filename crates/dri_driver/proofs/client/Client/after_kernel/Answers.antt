@@ -1,42 +1,53 @@
-use Rattle.std.proofs.Common.{◌≡◌, ◌≤◌, ◌+◌, ◌*◌, ◌∙◌, ap, arith, eqb, inl, inr, subst, Bool, true, false, ℕ}
-use Rattle.std.specs.Prelude.{if◌then◌else◌, not, ◌==◌, ◌⊎◌}
-use Rattle.std.proofs.lemmas.Bool.Decides.{nat_tests}
-use Rattle.dri_core.specs.Phases.{Phase, In, Old, Out}
+use Rattle.std.proofs.Common.{◌≡◌, ◌∙◌, Bool, true, false, ap, inl, inr, subst, sym}
+use Rattle.std.specs.Prelude.{◌⊎◌, if◌then◌else◌}
+use Rattle.dri_base.specs.declared.journal.Entry.TheVariants.{Kernel}
+use Rattle.dri_core.specs.Effects.{taken_in}
+use Rattle.dri_core.specs.Phases.{Phase, In, Old}
 use Rattle.dri_core.specs.Privates.{Private}
-use Rattle.dri_texheap.specs.RegionStates.{heap_of}
-use Rattle.dri_driver.specs.Activities.{phase_in}
+use Rattle.dri_core.proofs.Parts.{put_here}
+use Rattle.dri_shared.specs.Sides.{world_at}
 use Rattle.dri_driver.specs.Clients.{ClientState}
-use Rattle.dri_driver.specs.Kept.{IsKept, state_of}
-use Rattle.dri_driver.specs.Needs.{entries_left, need_of}
-use Rattle.dri_driver.proofs.Fitting.{kernel_made}
-use Rattle.dri_driver.proofs.Counts.{ahead_same, taken_need}
+use Rattle.dri_driver.specs.Kept.{IsClient, state_of}
+use Rattle.dri_driver.proofs.Counts.{taken_need}
+use Rattle.dri_driver.proofs.Fitting.{agreed_in, kernel_copies, kernel_told, makes_at, same_but, step_made, with_part}
 use Rattle.dri_driver.proofs.client.Client.after_kernel.Goals as goal
-
-flipped : (x y : ℕ) → (if not (eqb x y) then Old else In) ≡ (if y == x then In else Old)
-flipped x y = grind (arith, nat_tests)
 
 one_of : (b : Bool) (p : Phase) → p ≡ (if b then Old else In) → (p ≡ In) ⊎ (p ≡ Old)
 one_of true p is = inr is
 one_of false p is = inl is
 
+pub invariant_of-self : goal.invariant_of-self
+invariant_of-self c =
+    let is = c.self.invariant in
+    record { good = is.good; there = is.there; kept = c.kernel-is_stale.ensures.kept _ _ is.kept; copy = is.copy }
+
 pub returns-clause-made : goal.returns-clause-made
 returns-clause-made c =
+    let k = c.args.self.now in
     let a = c.args.side.now in
-    let m = c.catch_up.new.self in
-    kernel_made c.args.self.now a c.kernel-taken.new.self c.requires.fits m _ c.args.found c.kernel-taken.result.age (heap_of c.regions.result.now) c.kernel-taken.result.new_owner (phase_in c.taken-self-inside.result) c.requires.client
-    (ap (λ (k : ClientState). record k { phase = phase_in c.taken-self-inside.result }) c.self.view_is)
-    c.catch_up.ensures.part c.catch_up.ensures.same c.regions.ensures.heap c.kernel-taken.ensures.owner c.kernel-taken.ensures.age
-    (c.taken-self-inside.ensures ∙ (flipped c.kernel-taken.result.stamp c.self.inside.stamp ∙ (λ i. if (c.self.view_is i).stamp == c.kernel-taken.ensures.stamp i then In else Old))) c.kernel-taken.ensures.made
+    let b = c.kernel-taken.new.self in
+    let w = world_at a in
+    let n = k.number in
+    let found = c.args.found in
+    let fits = c.requires.fits in
+    let makes = makes_at (λ x. Kernel x found) a b n c.requires.client c.kernel-taken.ensures.made in
+    let agrees = kernel_told k a b found _ c.kernel-taken.result.stamp c.kernel-taken.result.new_owner c.kernel-is_stale.new.self c.requires.client fits makes c.regions.ensures.heap c.kernel-taken.ensures.stamp c.kernel-taken.ensures.owner
+    (c.kernel-is_stale.ensures.part k.scene w n found (agreed_in k (state_of c.self.inside) (w.client n) c.self.view_is fits.part)) in
+    step_made k (with_part (state_of c.self.inside) c.kernel-is_stale.new.self) a b (Kernel n found) fits makes (same_but k (state_of c.self.inside) c.kernel-is_stale.new.self c.self.view_is) (kernel_copies k.scene w n found) agrees
 
 pub returns-clause-need : goal.returns-clause-need
 returns-clause-need c =
-    let m = c.catch_up.new.self in
     let k = c.args.self.now in
-    let kept = subst (λ (x : ClientState). IsKept x c.self.inside.index) c.self.view_is c.self.invariant in
-    let place : m.place ≡ k.place = ap (λ (p : Private). p.place) c.catch_up.ensures.part in
-    let out : m.phase ≡ Out = ap (λ (p : Private). p.phase) c.catch_up.ensures.part ∙ (ap (λ (p : Private). p.phase) c.requires.fits.part ∙ c.requires.legal.0) in
-    let same : need_of m ≡ need_of k = ap (λ n. 3 * n + 4) (ahead_same k m c.catch_up.ensures.same.scene c.catch_up.ensures.same.number place) in
-    let l = state_of (record c.self.inside { activity = c.taken-self-inside.result }) in
-    subst (λ n. entries_left l + 1 ≤ n) same
-    (taken_need m l c.self.inside.index (ap (λ (x : ClientState). x.scene) c.self.view_is) (ap (λ (x : ClientState). x.number) c.self.view_is) (ap (λ (x : ClientState). x.place) c.self.view_is)
-    (one_of _ _ c.taken-self-inside.ensures) kept out)
+    let a = c.args.side.now in
+    let b = c.kernel-taken.new.self in
+    let w = world_at a in
+    let n = k.number in
+    let found = c.args.found in
+    let fits = c.requires.fits in
+    let makes = makes_at (λ x. Kernel x found) a b n c.requires.client c.kernel-taken.ensures.made in
+    let agrees = kernel_told k a b found _ c.kernel-taken.result.stamp c.kernel-taken.result.new_owner c.kernel-is_stale.new.self c.requires.client fits makes c.regions.ensures.heap c.kernel-taken.ensures.stamp c.kernel-taken.ensures.owner
+    (c.kernel-is_stale.ensures.part k.scene w n found (agreed_in k (state_of c.self.inside) (w.client n) c.self.view_is fits.part)) in
+    let kept = subst (λ (x : ClientState). IsClient x c.self.inside.index) c.self.view_is c.self.invariant in
+    let place = ap (λ (p : Private). p.place) agrees ∙ (ap (λ (p : Private). p.place) (put_here w.client n (taken_in k.scene w n)) ∙ ap (λ (p : Private). p.place) (sym fits.part)) in
+    taken_need k (with_part (state_of c.self.inside) c.kernel-is_stale.new.self) c.self.inside.index (ap (λ (x : ClientState). x.scene) c.self.view_is) (ap (λ (x : ClientState). x.number) c.self.view_is) place
+    (one_of _ _ c.kernel-is_stale.ensures.phase) kept (ap (λ (p : Private). p.phase) fits.part ∙ c.requires.legal.0)

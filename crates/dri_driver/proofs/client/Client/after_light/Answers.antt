@@ -1,20 +1,29 @@
-use Rattle.std.proofs.Common.{ap, ◌∙◌, inl, refl, subst}
-use Rattle.dri_base.specs.declared.journal.Entry.TheVariants.{Light}
-use Rattle.dri_core.specs.Phases.{In}
+use Rattle.std.proofs.Common.{◌∙◌, ap, inl, subst}
 use Rattle.dri_core.specs.Privates.{Private}
+use Rattle.dri_shared.specs.Sides.{world_at}
+use Rattle.dri_client.specs.Parts.{PartState}
 use Rattle.dri_driver.specs.Clients.{ClientState}
-use Rattle.dri_driver.specs.Kept.{IsKept, state_of}
-use Rattle.dri_driver.specs.declared.phase.Activity.TheVariants as Activity_is
+use Rattle.dri_driver.specs.Kept.{IsClient, state_of}
+use Rattle.dri_base.specs.declared.journal.Entry.TheVariants.{Light}
 use Rattle.dri_driver.proofs.Counts.{taken_need}
-use Rattle.dri_driver.proofs.Fitting.{light_made, makes_at}
+use Rattle.dri_driver.proofs.Fitting.{agreed_in, light_copies, makes_at, same_but, step_made, with_part}
 use Rattle.dri_driver.proofs.client.Client.after_light.Goals as goal
 
 pub returns-clause-made : goal.returns-clause-made
 returns-clause-made c =
-    light_made c.args.self.now c.args.side.now c.light.new.self c.requires.fits _ (ap (λ (k : ClientState). record k { phase = In }) c.self.view_is) (makes_at Light _ _ _ c.requires.client c.light.ensures)
+    let k = c.args.self.now in
+    let m = state_of c.self.inside in
+    let a = c.args.side.now in
+    let w = world_at a in
+    let n = k.number in
+    step_made k _ a c.light.new.self (Light n) c.requires.fits (makes_at Light _ _ _ c.requires.client c.light.ensures) (same_but k m c.light-2.new.self c.self.view_is) (light_copies k.scene w n)
+    (c.light-2.ensures.part k.scene w n (agreed_in k m (w.client n) c.self.view_is c.requires.fits.part))
 
 pub returns-clause-need : goal.returns-clause-need
 returns-clause-need c =
-    let kept = subst (λ (k : ClientState). IsKept k c.self.inside.index) c.self.view_is c.self.invariant in
-    taken_need c.args.self.now (state_of (record c.self.inside { activity = Activity_is.In })) c.self.inside.index (ap (λ (k : ClientState). k.scene) c.self.view_is) (ap (λ (k : ClientState). k.number) c.self.view_is)
-    (ap (λ (k : ClientState). k.place) c.self.view_is) (inl refl) kept (ap (λ (p : Private). p.phase) c.requires.fits.part ∙ c.requires.legal.0)
+    let k = c.args.self.now in
+    let m = state_of c.self.inside in
+    let kept = subst (λ (x : ClientState). IsClient x c.self.inside.index) c.self.view_is c.self.invariant in
+    let l = with_part m c.light-2.new.self in
+    taken_need k l c.self.inside.index (ap (λ (x : ClientState). x.scene) c.self.view_is) (ap (λ (x : ClientState). x.number) c.self.view_is)
+    (ap (λ (p : PartState). p.place) c.light-2.ensures.state ∙ ap (λ (x : ClientState). x.place) c.self.view_is) (inl (ap (λ (p : PartState). p.phase) c.light-2.ensures.state)) kept (ap (λ (p : Private). p.phase) c.requires.fits.part ∙ c.requires.legal.0)

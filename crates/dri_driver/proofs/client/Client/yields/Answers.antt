@@ -1,12 +1,16 @@
-use Rattle.std.proofs.Common.{refl, sym}
+use Rattle.std.proofs.Common.{refl}
 use Rattle.dri_base.specs.declared.command.Command.TheVariants.{Yield}
 use Rattle.dri_shared.specs.Sides.{world_at}
-use Rattle.dri_driver.proofs.Steps.{advanced, dirtied_same, run_step}
+use Rattle.dri_driver.proofs.Steps.{heap_left, run_step}
 use Rattle.dri_driver.proofs.client.Client.yields.Goals as goal
 
 pub returns : goal.returns
 returns c =
     let k = c.args.self.now in
+    let l = c.ran.new.self in
     let a = c.args.side.now in
-    run_step k c.advance.new.self a c.yielded.new.self Yield c.requires.client c.requires.fits c.requires.next c.advance.result c.advance.ensures.started c.requires.acting
-    (advanced k k c.advance.new.self (world_at a) Yield k.state k.dirty k.local refl c.advance.ensures.client refl (sym (dirtied_same k.state k.dirty)) refl) c.yielded.ensures refl c.advance.ensures.entry
+    let b = c.yielded.new.self in
+    let command = Yield in
+    let heap = heap_left k l a b command c.requires.client c.requires.fits c.requires.next c.yielded.ensures _ c.regions.ensures.heap in
+    run_step k l a b command c.requires.client c.requires.fits c.requires.next c.yielded.ensures c.ran.result c.ran.ensures.started c.requires.acting c.ran.ensures.same
+    (c.ran.ensures.part (world_at a) c.requires.fits.part heap) refl c.ran.ensures.entry

@@ -1,6 +1,6 @@
 use Rattle.std.proofs.Common.{◌≡◌, ◌+◌, drop}
 use Rattle.dri_driver.specs.Needs.{count_ahead}
-use Rattle.dri_driver.proofs.client.script.commands_ahead.Given as goal
+use Rattle.dri_driver.proofs.ahead.commands_ahead.Given as goal
 
 abbrev pub invariant-loop-command : goal.invariant-loop-command
 invariant-loop-command l = record {
