@@ -2,7 +2,7 @@ use Rattle.std.proofs.Common.{◌≤◌, ◌∙◌, List, Option, ap, sym, subst
 use Rattle.std.specs.Prelude.{IfSome}
 use Rattle.dri_base.specs.declared.texture.Texture.{Texture}
 use Rattle.std.proofs.Math.Nat.{mul-le-mul_right}
-use Rattle.dri_base.proofs.RangeLemmas.{region_size_within}
+use Rattle.dri_base.proofs.RegionSizes.{region_size_within}
 use Rattle.dri_model.specs.Heaps.{Run}
 use Rattle.dri_client.specs.Kept.{IsKept}
 use Rattle.dri_texheap.specs.RegionStates.{IsInside}
