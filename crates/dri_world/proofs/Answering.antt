@@ -20,14 +20,14 @@ use Rattle.dri_core.specs.Cores.{opening_core}
 use Rattle.dri_core.specs.Phases.{is_holding}
 use Rattle.dri_core.specs.Privates.{Private}
 use Rattle.dri_core.specs.Worlds.{World}
-use Rattle.dri_core.specs.Turns.{kill, one_event, turn, turn_of}
+use Rattle.dri_core.specs.Turns.{kill, one_event, turn}
 use Rattle.dri_core.proofs.Going.{Going, going_after}
 use Rattle.dri_shared.specs.States.{IsSameRun, SharedState, world_of}
 use Rattle.dri_world.specs.Courses.{Course, GoesOn, IsPassedOver, IsPastKilling, LeavesLess, core_of, is_move, turned}
 use Rattle.dri_world.specs.Holding.{IsClientOf, IsHeld}
-use Rattle.dri_world.specs.Locks.{core_at}
+use Rattle.dri_world.specs.Sites.{kill_at, turn_at}
 use Rattle.dri_world.specs.Turns.{Brings, IsSeated, MayBring}
-use Rattle.dri_world.specs.declared.lock.Lock.{Lock}
+use Rattle.dri_world.specs.declared.site.Site.{Site}
 use Rattle.dri_world.specs.declared.turned.Turned.{Turned}
 use Rattle.dri_world.specs.declared.turned.Turned.TheVariants.{Passed}
 use Rattle.dri_world.proofs.Held.{going, world_is, kill_same, killed_on, may_kill, may_turn, same_run, seated, still_on, turn_same, turned_on}
@@ -35,32 +35,32 @@ use Rattle.dri_world.proofs.Passing.{killed_exactly, passed_exactly}
 use Rattle.dri_world.proofs.Rounding.{turn_falls}
 
 -- a client that stands at a place of the scene's scripts, in a world whose parts are held
-pub record ClientAt (s : Scene) (es : List Event) (v : SharedState) (l : Lock) (ks : List ClientState) (i n : ℕ) (k : ClientState) : Type 0 where
-  pub held : IsHeld s es v l ks
+pub record ClientAt (s : Scene) (es : List Event) (t : Site) (ks : List ClientState) (i n : ℕ) (k : ClientState) : Type 0 where
+  pub held : IsHeld s es t ks
   pub number : slice_get (client_numbers s.clients) i ≡ Some n
   pub client : slice_get ks i ≡ Some k
 
 -- the place of a script is one of a client
-pub within : (s : Scene) (es : List Event) (v : SharedState) (l : Lock) (ks : List ClientState) (w : Course) (i n : ℕ) → IsHeld s es v l ks → record { scene = s; events = es } ≡ w → slice_get (client_numbers w.scene.clients) i ≡ Some n → i < length ks
-within s es v l ks w i n held view at_i =
-    let at : slice_get (client_numbers s.clients) i ≡ Some n = subst (λ (t : Course). slice_get (client_numbers t.scene.clients) i ≡ Some n) (sym view) at_i in
+pub within : (s : Scene) (es : List Event) (t : Site) (ks : List ClientState) (w : Course) (i n : ℕ) → IsHeld s es t ks → record { scene = s; events = es } ≡ w → slice_get (client_numbers w.scene.clients) i ≡ Some n → i < length ks
+within s es t ks w i n held view at_i =
+    let at : slice_get (client_numbers s.clients) i ≡ Some n = subst (λ (x : Course). slice_get (client_numbers x.scene.clients) i ≡ Some n) (sym view) at_i in
     omega (arith, slice_get_within (client_numbers s.clients) i n at, held.clients.number)
 
-pub stands_at : (s : Scene) (es : List Event) (v v' : SharedState) (l : Lock) (ks : List ClientState) (w : Course) (i n : ℕ) (k : ClientState) → IsHeld s es v l ks → IsSameRun v v' → record { scene = s; events = es } ≡ w →
-    slice_get (client_numbers w.scene.clients) i ≡ Some n → k ≡ get_or ks i k → ClientAt s es v' l ks i n k
-stands_at s es v v' l ks w i n k held same view at_i is = record {
-  held = same_run s es v v' l ks held same;
-  number = subst (λ (t : Course). slice_get (client_numbers t.scene.clients) i ≡ Some n) (sym view) at_i;
-  client = slice_get_read ks (length ks) i k refl (within s es v l ks w i n held view at_i) is;
+pub stands_at : (s : Scene) (es : List Event) (t : Site) (v' : SharedState) (ks : List ClientState) (w : Course) (i n : ℕ) (k : ClientState) → IsHeld s es t ks → IsSameRun t.shared v' → record { scene = s; events = es } ≡ w →
+    slice_get (client_numbers w.scene.clients) i ≡ Some n → k ≡ get_or ks i k → ClientAt s es (record { shared = v'; lock = t.lock }) ks i n k
+stands_at s es t v' ks w i n k held same view at_i is = record {
+  held = same_run s es t v' ks held same;
+  number = subst (λ (x : Course). slice_get (client_numbers x.scene.clients) i ≡ Some n) (sym view) at_i;
+  client = slice_get_read ks (length ks) i k refl (within s es t ks w i n held view at_i) is;
 }
 
 -- the same, where the place is one of the scene's own scripts
-pub within_scene : (s : Scene) (es : List Event) (v : SharedState) (l : Lock) (ks : List ClientState) (i n : ℕ) → IsHeld s es v l ks → slice_get (client_numbers s.clients) i ≡ Some n → i < length ks
-within_scene s es v l ks i n held at_i = within s es v l ks (record { scene = s; events = es }) i n held refl at_i
+pub within_scene : (s : Scene) (es : List Event) (t : Site) (ks : List ClientState) (i n : ℕ) → IsHeld s es t ks → slice_get (client_numbers s.clients) i ≡ Some n → i < length ks
+within_scene s es t ks i n held at_i = within s es t ks (record { scene = s; events = es }) i n held refl at_i
 
-pub stands_in : (s : Scene) (es : List Event) (v v' : SharedState) (l : Lock) (ks : List ClientState) (i n : ℕ) (k : ClientState) → IsHeld s es v l ks → IsSameRun v v' →
-    slice_get (client_numbers s.clients) i ≡ Some n → k ≡ get_or ks i k → ClientAt s es v' l ks i n k
-stands_in s es v v' l ks i n k held same at_i is = stands_at s es v v' l ks (record { scene = s; events = es }) i n k held same refl at_i is
+pub stands_in : (s : Scene) (es : List Event) (t : Site) (v' : SharedState) (ks : List ClientState) (i n : ℕ) (k : ClientState) → IsHeld s es t ks → IsSameRun t.shared v' →
+    slice_get (client_numbers s.clients) i ≡ Some n → k ≡ get_or ks i k → ClientAt s es (record { shared = v'; lock = t.lock }) ks i n k
+stands_in s es t v' ks i n k held same at_i is = stands_at s es t v' ks (record { scene = s; events = es }) i n k held same refl at_i is
 
 -- a client that the schedule kills is one of the scene's
 pub named_there : (numbers : List ℕ) (items : List Item) (c : ℕ) → All (ItemInRange numbers) items → kills_in items c ≡ true → Contains numbers c
@@ -72,37 +72,37 @@ named_there numbers (Kill d ∷ items) c all e = by_name (d == c) refl (named_th
     by_name true n later = let same : d ≡ c = grind (arith, nat_tests) in subst (Contains numbers) same (All-head (ItemInRange numbers) (Kill d) items all)
     by_name false n later = later (rw n at e)
 
-module _ (s : Scene) (es : List Event) (v : SharedState) (l : Lock) (ks : List ClientState) (i n : ℕ) (k : ClientState) (at : ClientAt s es v l ks i n k) where
-  pub is_seated : 1 ≤ v.spare → IsSeated v k n
-  is_seated room = seated s es v l ks at.held i n k at.number at.client room
+module _ (s : Scene) (es : List Event) (t : Site) (ks : List ClientState) (i n : ℕ) (k : ClientState) (at : ClientAt s es t ks i n k) where
+  pub is_seated : 1 ≤ t.shared.spare → IsSeated t k
+  is_seated room = seated s es t ks at.held i n k at.number at.client room
 
-  pub turn_may : MayBring v (turn_of v.scene (core_at v l k.dying) n)
-  turn_may = may_turn s es v l ks at.held n _ (turn_same s es v l ks at.held i n k at.number at.client)
+  pub turn_may : MayBring t (turn_at t k)
+  turn_may = may_turn s es t ks at.held n _ (turn_same s es t ks at.held i n k at.number at.client)
 
-  pub turn_event : (o : Option Event) → o ≡ turn_of v.scene (core_at v l k.dying) n → o ≡ turn s (after_events s (opening_core s) es) n
-  turn_event o is = is ∙ turn_same s es v l ks at.held i n k at.number at.client
+  pub turn_event : (o : Option Event) → o ≡ turn_at t k → o ≡ turn s (after_events s (opening_core s) es) n
+  turn_event o is = is ∙ turn_same s es t ks at.held i n k at.number at.client
 
-  pub turn_held : (o : Option Event) (es' : List Event) (v' : SharedState) (l' : Lock) (k' : ClientState) → o ≡ turn_of v.scene (core_at v l k.dying) n → es' ≡ es ++ one_event o → Brings o v v' l l' k k' → IsHeld s es' v' l' (set ks i k')
-  turn_held o es' v' l' k' is more brings = subst (λ t. IsHeld s t v' l' (set ks i k')) (sym more) (turned_on s es v l ks at.held i n k k' v' l' o at.number at.client (turn_event o is) brings)
+  pub turn_held : (o : Option Event) (es' : List Event) (t' : Site) (k' : ClientState) → o ≡ turn_at t k → es' ≡ es ++ one_event o → Brings o t t' k k' → IsHeld s es' t' (set ks i k')
+  turn_held o es' t' k' is more brings = subst (λ x. IsHeld s x t' (set ks i k')) (sym more) (turned_on s es t ks at.held i n k k' t' o at.number at.client (turn_event o is) brings)
 
-  pub still_held : (es' : List Event) (v' : SharedState) (l' : Lock) (k' : ClientState) → es' ≡ es → Brings None v v' l l' k k' → IsHeld s es' v' l' (set ks i k')
-  still_held es' v' l' k' same brings = subst (λ t. IsHeld s t v' l' (set ks i k')) (sym same) (still_on s es v l ks at.held i n k k' v' l' at.number at.client brings)
+  pub still_held : (es' : List Event) (t' : Site) (k' : ClientState) → es' ≡ es → Brings None t t' k k' → IsHeld s es' t' (set ks i k')
+  still_held es' t' k' same brings = subst (λ x. IsHeld s x t' (set ks i k')) (sym same) (still_on s es t ks at.held i n k k' t' at.number at.client brings)
 
-  pub kill_may : is_named s n ≡ true → MayBring v (kill (core_at v l k.dying) n)
-  kill_may named = may_kill s es v l ks at.held n _ named (kill_same s es v l ks at.held i n k at.number at.client)
+  pub kill_may : is_named s n ≡ true → MayBring t (kill_at t k)
+  kill_may named = may_kill s es t ks at.held n _ named (kill_same s es t ks at.held i n k at.number at.client)
 
-  pub kill_event : (o : Option Event) → o ≡ kill (core_at v l k.dying) n → o ≡ kill (after_events s (opening_core s) es) n
-  kill_event o is = is ∙ kill_same s es v l ks at.held i n k at.number at.client
+  pub kill_event : (o : Option Event) → o ≡ kill_at t k → o ≡ kill (after_events s (opening_core s) es) n
+  kill_event o is = is ∙ kill_same s es t ks at.held i n k at.number at.client
 
-  pub kill_held : (o : Option Event) (es' : List Event) (v' : SharedState) (l' : Lock) (k' : ClientState) → is_named s n ≡ true → o ≡ kill (core_at v l k.dying) n → es' ≡ es ++ one_event o → Brings o v v' l l' k k' → IsHeld s es' v' l' (set ks i k')
-  kill_held o es' v' l' k' named is more brings = subst (λ t. IsHeld s t v' l' (set ks i k')) (sym more) (killed_on s es v l ks at.held i n k k' v' l' o at.number at.client named (kill_event o is) brings)
+  pub kill_held : (o : Option Event) (es' : List Event) (t' : Site) (k' : ClientState) → is_named s n ≡ true → o ≡ kill_at t k → es' ≡ es ++ one_event o → Brings o t t' k k' → IsHeld s es' t' (set ks i k')
+  kill_held o es' t' k' named is more brings = subst (λ x. IsHeld s x t' (set ks i k')) (sym more) (killed_on s es t ks at.held i n k k' t' o at.number at.client named (kill_event o is) brings)
 
   -- who is dying doesn't hold
   pub dying_rests : k.dying ≡ true → is_holding k.phase ≡ false
-  dying_rests d = ap (λ (p : Private). is_holding p.phase) (was.fits.part ∙ ap (world_of v).client was.numbered ∙ ap (λ (w : World). w.client n) (world_is s es v l ks at.held))
-      ∙ (going s es v l ks at.held).known.queued.alive n (sym was.dying ∙ d)
+  dying_rests d = ap (λ (p : Private). is_holding p.phase) (was.fits.part ∙ ap (world_of t.shared).client was.numbered ∙ ap (λ (w : World). w.client n) (world_is s es t ks at.held))
+      ∙ (going s es t ks at.held).known.queued.alive n (sym was.dying ∙ d)
     where
-      was : IsClientOf v (after_events s (opening_core s) es) n k
+      was : IsClientOf t.shared (after_events s (opening_core s) es) n k
       was = at.held.clients.each i n k at.number at.client
 
 -- the answers of a turn

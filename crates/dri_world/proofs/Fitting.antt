@@ -1,5 +1,5 @@
 -- A client and the shared value after one entry more.
-use Rattle.std.proofs.Common.{◌≡◌, ℕ, Bool, true, false, Option, Some, None, arith, refl, sym, ap, ◌∙◌, subst}
+use Rattle.std.proofs.Common.{◌≡◌, ◌++◌, [], ℕ, Bool, true, false, Option, Some, None, arith, refl, sym, ap, ◌∙◌, subst}
 use Rattle.std.specs.Prelude.{not, ◌==◌, ◌&&◌, if◌then◌else◌}
 use Rattle.std.proofs.lemmas.Bool.{true≢false}
 use Rattle.std.proofs.lemmas.Bool.Decides.{nat_tests}
@@ -21,63 +21,51 @@ use Rattle.dri_driver.specs.Fits.{Fits, HasMade, IsSameClient}
 use Rattle.dri_core.specs.EventTable.{leaves}
 use Rattle.dri_core.specs.Phases as Phase_is
 use Rattle.dri_core.specs.Privates.{textured_with}
-use Rattle.dri_core.specs.Turns.{acting_turn, emit_turn, triangle_turn}
+use Rattle.dri_core.specs.Cores.{journal_of}
+use Rattle.dri_core.specs.Turns.{acting_turn, core_after, emit_turn, one_event, triangle_turn, waiting}
 use Rattle.dri_core.specs.Worlds.{World}
 use Rattle.dri_model.specs.Groups.{is_empty, bits}
 use Rattle.dri_model.specs.Heaps as Heaps
 use Rattle.dri_shared.specs.Copies.{IsToldOf, corner}
 use Rattle.dri_shared.specs.States.{Added, SharedState, world_of}
 use Rattle.dri_shared.specs.declared.answers.Told.{Told}
-use Rattle.dri_world.specs.Turns.{Brings, IsSeated}
+use Rattle.dri_world.specs.Sites.{core_at}
+use Rattle.dri_world.specs.Turns.{Brings, BringsTo, IsSeated, is_still}
 use Rattle.dri_world.specs.declared.lock.Lock.{Lock}
+use Rattle.dri_world.specs.declared.site.Site.{Site}
+use Rattle.dri_world.proofs.Whose.{waits_live}
 
 -- a client that died
-pub gone_brings : (v v' : SharedState) (l l' : Lock) (k k' : ClientState) (c : ℕ) → IsSeated v k c → Added v v' (Entry_is.Gone c) → k' ≡ record k { dying = false; phase = Phase_is.Dead } → (Fits k v → Added v v' (Entry_is.Gone k.number) → Fits k' v') →
-    l'.word ≡ record { held = false; contended = false; context = 0 } → l'.queue ≡ leaves c l.queue → Brings (Some (Gone c)) v v' l l' k k'
-gone_brings v v' l l' k k' c seated added is fits word queue = record {
-  scene = added.scene;
-  journal = added.journal;
-  word = word;
-  queue = queue;
-  numbered = ap (λ t. t.number) is;
-  fits = fits seated.fits (subst (λ n. Added v v' (Entry_is.Gone n)) (sym seated.numbered) added);
-  dying = ap (λ t. t.dying) is ∙ sym (rw seated.numbered (over c k.dying));
+pub gone_brings : (t : Site) (v' : SharedState) (l' : Lock) (k k' : ClientState) (c : ℕ) → IsSeated t k → c ≡ k.number → Added t.shared v' (Entry_is.Gone c) → k' ≡ record k { dying = false; phase = Phase_is.Dead } →
+    (Fits k t.shared → Added t.shared v' (Entry_is.Gone k.number) → Fits k' v') → l'.word ≡ record { held = false; contended = false; context = 0 } → l'.queue ≡ leaves c t.lock.queue →
+    Brings (Some (Gone k.number)) t (record { shared = v'; lock = l' }) k k'
+gone_brings t v' l' k k' c seated same added is fits word queue = record {
+  site = record { scene = added.scene; journal = made.journal; word = word; queue = queue ∙ ap (λ n. leaves n t.lock.queue) same };
+  numbered = ap (λ x. x.number) is;
+  fits = fits seated.fits made;
+  dying = ap (λ x. x.dying) is ∙ sym (over k.number k.dying);
 }
   where
+    made : Added t.shared v' (Entry_is.Gone k.number)
+    made = subst (λ n. Added t.shared v' (Entry_is.Gone n)) same added
+
     over : (n : ℕ) (b : Bool) → (not (n == n) && b) ≡ false
     over n b = grind (arith, nat_tests)
 
 -- a client that was told what its window shows
-pub told_brings : (v v' : SharedState) (l l' : Lock) (k k' : ClientState) (c : ℕ) (news : Told) → IsSeated v k c → Added v v' (Entry_is.Info c) → IsToldOf v.scene (world_of v) c news →
+pub told_brings : (t : Site) (v' : SharedState) (l' : Lock) (k k' : ClientState) (c : ℕ) (news : Told) → IsSeated t k → c ≡ k.number → Added t.shared v' (Entry_is.Info c) → IsToldOf t.shared.scene (world_of t.shared) c news →
     k' ≡ record k { phase = Phase_is.Out; stamp = news.stamp; clips = news.clips; origin = corner news.origin } →
-    (Fits k v → Added v v' (Entry_is.Info k.number) → IsToldOf v.scene (world_of v) k.number news → Fits k' v') →
-    l'.word ≡ record { held = false; contended = false; context = 1 } → l'.queue ≡ leaves c l.queue → Brings (Some (Info c)) v v' l l' k k'
-told_brings v v' l l' k k' c news seated added tells is fits word queue = record {
-  scene = added.scene;
-  journal = added.journal;
-  word = word;
-  queue = queue;
-  numbered = ap (λ t. t.number) is;
-  fits = fits seated.fits (subst (λ n. Added v v' (Entry_is.Info n)) (sym seated.numbered) added) (subst (λ n. IsToldOf v.scene (world_of v) n news) (sym seated.numbered) tells);
-  dying = ap (λ t. t.dying) is;
+    (Fits k t.shared → Added t.shared v' (Entry_is.Info k.number) → IsToldOf t.shared.scene (world_of t.shared) k.number news → Fits k' v') →
+    l'.word ≡ record { held = false; contended = false; context = 1 } → l'.queue ≡ leaves c t.lock.queue → Brings (Some (Info k.number)) t (record { shared = v'; lock = l' }) k k'
+told_brings t v' l' k k' c news seated same added tells is fits word queue = record {
+  site = record { scene = added.scene; journal = made.journal; word = word; queue = queue ∙ ap (λ n. leaves n t.lock.queue) same };
+  numbered = ap (λ x. x.number) is;
+  fits = fits seated.fits made (subst (λ n. IsToldOf t.shared.scene (world_of t.shared) n news) same tells);
+  dying = ap (λ x. x.dying) is;
 }
-
--- the event leaves the word, the queue and who is dying as they are
-abbrev pub is_still : Event → Bool
-is_still (Emit c groups) = true
-is_still (Place c t first count) = true
-is_still (Run c i) = true
-is_still (Light c) = false
-is_still (Kernel c found) = false
-is_still (Queue a) = false
-is_still (Mark a) = false
-is_still (Stale c) = false
-is_still (LeaveLight c) = false
-is_still (LeaveKernel c) = false
-is_still (Info c) = false
-is_still (Change i) = false
-is_still (Stop c) = false
-is_still (Gone c) = false
+  where
+    made : Added t.shared v' (Entry_is.Info k.number)
+    made = subst (λ n. Added t.shared v' (Entry_is.Info n)) same added
 
 abbrev pub still_of : Option Event → Bool
 still_of None = true
@@ -111,29 +99,40 @@ still_acts s w c (Some (Triangle t)) alive = by_texture (textured_with (w.client
 pub still_is : (s : Scene) (w : World) (c : ℕ) (command : Option Command) (e : Event) → (command ≡ Some Die → ⊥) → acting_turn s w c command ≡ Some e → is_still e ≡ true
 still_is s w c command e alive h = sym (ap still_of h) ∙ still_acts s w c command alive
 
-pub ran_brings : (v v' : SharedState) (l : Lock) (k k' : ClientState) (e : Entry) → Added v v' e → Fits k' v' → IsSameClient k k' → is_still (event_of e) ≡ true → Brings (Some (event_of e)) v v' l l k k'
-ran_brings v v' l k k' (Entry_is.Emit c groups) added fits same still = record { scene = added.scene; journal = added.journal; word = refl; queue = refl; numbered = same.number; fits = fits; dying = same.dying }
-ran_brings v v' l k k' (Entry_is.Place c t first count) added fits same still = record { scene = added.scene; journal = added.journal; word = refl; queue = refl; numbered = same.number; fits = fits; dying = same.dying }
-ran_brings v v' l k k' (Entry_is.Run c i) added fits same still = record { scene = added.scene; journal = added.journal; word = refl; queue = refl; numbered = same.number; fits = fits; dying = same.dying }
-ran_brings v v' l k k' (Entry_is.Light c) added fits same still = absurd (true≢false (sym still))
-ran_brings v v' l k k' (Entry_is.Kernel c found) added fits same still = absurd (true≢false (sym still))
-ran_brings v v' l k k' (Entry_is.Stale c) added fits same still = absurd (true≢false (sym still))
-ran_brings v v' l k k' (Entry_is.Leave c) added fits same still = absurd (true≢false (sym still))
-ran_brings v v' l k k' (Entry_is.Info c) added fits same still = absurd (true≢false (sym still))
-ran_brings v v' l k k' (Entry_is.Change i) added fits same still = absurd (true≢false (sym still))
-ran_brings v v' l k k' (Entry_is.Gone c) added fits same still = absurd (true≢false (sym still))
+-- a client that made such an event
+pub ran_brings : (t t' : Site) (k k' : ClientState) (e : Entry) → Added t.shared t'.shared e → t'.lock ≡ t.lock → Fits k' t'.shared → IsSameClient k k' → is_still (event_of e) ≡ true → Brings (Some (event_of e)) t t' k k'
+ran_brings t t' k k' (Entry_is.Emit c groups) added lock fits same still = record { site = record { scene = added.scene; journal = added.journal; word = ap (λ (l : Lock). l.word) lock; queue = ap (λ (l : Lock). l.queue) lock }; numbered = same.number; fits = fits; dying = same.dying }
+ran_brings t t' k k' (Entry_is.Place c u first count) added lock fits same still = record { site = record { scene = added.scene; journal = added.journal; word = ap (λ (l : Lock). l.word) lock; queue = ap (λ (l : Lock). l.queue) lock }; numbered = same.number; fits = fits; dying = same.dying }
+ran_brings t t' k k' (Entry_is.Run c i) added lock fits same still = record { site = record { scene = added.scene; journal = added.journal; word = ap (λ (l : Lock). l.word) lock; queue = ap (λ (l : Lock). l.queue) lock }; numbered = same.number; fits = fits; dying = same.dying }
+ran_brings t t' k k' e added lock fits same still = absurd (true≢false (sym still))
 
 -- no event, and all as before
-pub brings_none : (v v' : SharedState) (l : Lock) (k : ClientState) → Fits k v → v' ≡ v → Brings None v v' l l k k
-brings_none v v' l k fits same = subst (λ t. Brings None v t l l k k) (sym same) (record {
-  scene = refl;
-  journal = sym (append-nil v.journal);
-  word = refl;
-  queue = refl;
+pub brings_none : (t : Site) (v' : SharedState) (k : ClientState) → Fits k t.shared → v' ≡ t.shared → Brings None t (record { shared = v'; lock = t.lock }) k k
+brings_none t v' k fits same = subst (λ (w : SharedState). Brings None t (record { shared = w; lock = t.lock }) k k) (sym same) (record {
+  site = record { scene = refl; journal = sym (append-nil t.shared.journal); word = refl; queue = refl };
   numbered = refl;
   fits = fits;
   dying = refl;
 })
+
+-- waiting brings what the lock tells
+pub waited : (t : Site) (l' : Lock) (dying : Bool) (o : Option Event) → l'.word ≡ (core_after t.shared.scene (core_at t dying) o).word → l'.queue ≡ (core_after t.shared.scene (core_at t dying) o).queue →
+    journal_of (one_event o) ≡ [] → BringsTo dying o t (record { shared = t.shared; lock = l' })
+waited t l' dying o word queue entry = record {
+  scene = refl;
+  journal = sym (append-nil t.shared.journal) ∙ ap (λ xs. t.shared.journal ++ xs) (sym entry);
+  word = word;
+  queue = queue;
+}
+
+pub wait_brings : (t : Site) (l' : Lock) (k : ClientState) (c : ℕ) (o : Option Event) → IsSeated t k → o ≡ waiting (core_at t k.dying) c → l'.word ≡ (core_after t.shared.scene (core_at t k.dying) o).word →
+    l'.queue ≡ (core_after t.shared.scene (core_at t k.dying) o).queue → journal_of (one_event o) ≡ [] → Brings o t (record { shared = t.shared; lock = l' }) k k
+wait_brings t l' k c o seated is word queue entry = record {
+  site = waited t l' k.dying o word queue entry;
+  numbered = refl;
+  fits = seated.fits;
+  dying = sym (waits_live t.shared.scene (core_at t k.dying) c k.number o is);
+}
 
 -- who made an event in its side fits the value that the side leaves
 pub acted_fits : (a : Acted) (k k' : ClientState) (before after : ClientSide) (v' : SharedState) → IfRan a (HasMade k k' before after) → v' ≡ value_at after → IfRan a (λ e. Fits k' v')

@@ -30,15 +30,11 @@ use Rattle.dri_world.specs.declared.turned.Turned.{Turned}
 pub core_on : (old new : Course) (more : List Event) → GoesOn old new more → core_of new ≡ after_events old.scene (core_of old) more
 core_on old new more on = rw (on.scene, on.events) (after_append old.scene (opening_core old.scene) old.events more)
 
--- nothing more
-pub stays_on : (old new : Course) → new ≡ old → GoesOn old new []
-stays_on old new same = record { scene = ap (λ w. w.scene) same; events = ap (λ w. w.events) same ∙ sym (append-nil old.events) }
-
+-- more events after more events
 append_three : (xs ys zs : List Event) → (xs ++ ys) ++ zs ≡ xs ++ (ys ++ zs)
 append_three [] ys zs = refl
 append_three (x ∷ xs) ys zs = ap (λ t. x ∷ t) (append_three xs ys zs)
 
--- more events after more events
 pub goes_on_on : (a b c : Course) (xs ys : List Event) → GoesOn a b xs → GoesOn b c ys → GoesOn a c (xs ++ ys)
 goes_on_on a b c xs ys first second = record {
   scene = second.scene ∙ first.scene;

@@ -8,7 +8,7 @@ use Rattle.dri_driver.specs.Fits.{Fits}
 use Rattle.dri_core.specs.CoreRuns.{IsRun, after_events}
 use Rattle.dri_core.specs.Cores.{Core, journal_of, opening_core}
 use Rattle.dri_shared.specs.States.{SharedState}
-use Rattle.dri_world.specs.declared.lock.Lock.{Lock}
+use Rattle.dri_world.specs.declared.site.Site.{Site}
 
 -- a client has this number, fits the journal, and is dying where the core says so
 pub record IsClientOf (v : SharedState) (core : Core) (number : ℕ) (k : ClientState) : Type 0 where
@@ -22,11 +22,11 @@ pub record HasClients (v : SharedState) (core : Core) (numbers : List ℕ) (ks :
   pub each : (i n : ℕ) (k : ClientState) → slice_get numbers i ≡ Some n → slice_get ks i ≡ Some k → IsClientOf v core n k
 
 -- the parts are those of the core that the events leave
-pub record IsHeld (s : Scene) (events : List Event) (v : SharedState) (lock : Lock) (ks : List ClientState) : Type 0 where
+pub record IsHeld (s : Scene) (events : List Event) (t : Site) (ks : List ClientState) : Type 0 where
   pub good : InRange s
   pub run : IsRun s events
-  pub scene : v.scene ≡ s
-  pub journal : v.journal ≡ journal_of events
-  pub word : lock.word ≡ (after_events s (opening_core s) events).word
-  pub queue : lock.queue ≡ (after_events s (opening_core s) events).queue
-  pub clients : HasClients v (after_events s (opening_core s) events) (client_numbers s.clients) ks
+  pub scene : t.shared.scene ≡ s
+  pub journal : t.shared.journal ≡ journal_of events
+  pub word : t.lock.word ≡ (after_events s (opening_core s) events).word
+  pub queue : t.lock.queue ≡ (after_events s (opening_core s) events).queue
+  pub clients : HasClients t.shared (after_events s (opening_core s) events) (client_numbers s.clients) ks

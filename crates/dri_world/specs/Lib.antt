@@ -1,4 +1,4 @@
 pub mod Courses
-pub mod Locks
+pub mod Sites
 pub mod Turns
 pub mod Holding

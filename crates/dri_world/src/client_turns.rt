@@ -1,119 +1,161 @@
 //! The turns of a client, by its phase, and its kill. Each makes one event at most.
 
 ghost use Rattle.std.specs.Prelude.{◌≡◌, ◌↔◌, false, true, IfOk, OnErr, Some, None};
-ghost use Rattle.dri_base.specs.declared.journal.Entry.TheVariants as Entry_is;
 ghost use Rattle.dri_driver.specs.Acts.{IfRan, IsAtDeath, IsAtEnd, MustGo, UnlessRan, event_of, next_event};
 ghost use Rattle.dri_driver.specs.Fits.{Fits, IsSameClient};
 ghost use Rattle.dri_core.specs.Phases as Phase_is;
 ghost use Rattle.dri_core.specs.Phases.{is_holding};
-ghost use Rattle.dri_core.specs.Turns.{kill, or_waiting, phase_turn, turn_of, waiting};
-ghost use Rattle.dri_shared.specs.States.{Added, MayAdd, world_of};
-ghost use Rattle.dri_world.specs.Locks.{core_at};
-ghost use Rattle.dri_world.specs.Turns.{Brings, IsSeated, MayBring};
+ghost use Rattle.dri_core.specs.Turns.{or_waiting, phase_turn, waiting};
+ghost use Rattle.dri_shared.specs.States.{Added, world_of};
+ghost use Rattle.dri_world.specs.Sites.{core_at, kill_at, turn_at};
+ghost use Rattle.dri_world.specs.Turns.{Brings, IsSeated, MayBring, is_still};
 
-use crate::client_events::{bury, inform, leave, say_stale, stop, take_by_kernel, take_lightly};
-use crate::lock::{Lock, lets_in, wait};
+use crate::site::Site;
 use dri_base::{Entry, Event, OutOfMemory};
 use dri_driver::{Acted, Client, Phase};
-use dri_shared::Shared;
 use std::alloc::Global;
 
-/// The turn of a client: its one legal event, kills aside, or none. After `OutOfMemory` all is as before.
-pub(crate) fn turn_of(
-    alloc: Global,
-    shared: &mut Shared,
-    lock: &mut Lock,
-    client: &mut Client,
-    number: u32,
-) -> Result<Option<Event>, OutOfMemory>
-    requires seated { IsSeated shared.old client.old number }
-    requires legal { MayBring shared.old (turn_of shared.old.scene (core_at shared.old lock.old client.old.dying) number) }
-    ensures event { IfOk result (λ o. o ≡ turn_of shared.old.scene (core_at shared.old lock.old client.old.dying) number) }
-    ensures made { IfOk result (λ o. Brings o shared.old shared.new lock.old lock.new client.old client.new) }
-    ensures err { OnErr result (Brings None shared.old shared.new lock.old lock.new client.old client.new) }
-{
-    match client.phase() {
-        Phase::Out => Ok(turn_out(shared, lock, client, number)),
-        Phase::Old => Ok(Some(say_stale(shared, lock, client, number))),
-        Phase::In => turn_in(alloc, shared, lock, client, number),
-        Phase::Over => Ok(Some(leave(shared, lock, client, number))),
-        Phase::Ask => Ok(Some(leave(shared, lock, client, number))),
-        Phase::Asking => turn_asking(alloc, shared, lock, client, number),
-        Phase::Dying => turn_dying(alloc, shared, lock, client, number),
-        Phase::Ended => Ok(None),
-        Phase::Dead => Ok(None),
+impl Site {
+    /// The turn of a client: its one legal event, kills aside, or none. After `OutOfMemory` all is as before.
+    pub(crate) fn turn_of(&mut self, alloc: Global, client: &mut Client) -> Result<Option<Event>, OutOfMemory>
+        requires seated { IsSeated self.old client.old }
+        requires legal { MayBring self.old (turn_at self.old client.old) }
+        ensures event { IfOk result (λ o. o ≡ turn_at self.old client.old) }
+        ensures made { IfOk result (λ o. Brings o self.old self.new client.old client.new) }
+        ensures err { OnErr result (Brings None self.old self.new client.old client.new) }
+    {
+        match client.phase() {
+            Phase::Out => Ok(self.turn_out(client)),
+            Phase::Old => Ok(Some(self.say_stale(client))),
+            Phase::In => self.turn_in(alloc, client),
+            Phase::Over | Phase::Ask => Ok(Some(self.leave(client))),
+            Phase::Asking => self.turn_asking(alloc, client),
+            Phase::Dying => self.turn_dying(alloc, client),
+            Phase::Ended | Phase::Dead => Ok(None),
+        }
+    }
+
+    // A client that is out takes the word lightly where it left it last; else the kernel lets it in, or it waits.
+    fn turn_out(&mut self, client: &mut Client) -> Option<Event>
+        requires seated { IsSeated self.old client.old }
+        requires living { client.old.dying ≡ false }
+        requires legal { MayBring self.old (phase_turn self.old.shared.scene (core_at self.old false) client.old.number Phase_is.Out) }
+        ensures event { result ≡ phase_turn self.old.shared.scene (core_at self.old false) client.old.number Phase_is.Out }
+        ensures made { Brings result self.old self.new client.old client.new }
+    {
+        let number = client.number();
+        if !self.lock.word.is_held() && self.lock.word.context() == number + 1 {
+            return Some(self.take_lightly(client));
+        }
+        if self.lock.lets_in(number) {
+            return Some(self.take_by_kernel(client));
+        }
+        self.wait_for(client)
+    }
+
+    // A client that may act runs its next command, or makes ready for it, or dies.
+    fn turn_in(&mut self, alloc: Global, client: &mut Client) -> Result<Option<Event>, OutOfMemory>
+        requires seated { IsSeated self.old client.old }
+        requires living { client.old.dying ≡ false }
+        requires phase { client.old.phase ≡ Phase_is.In }
+        requires legal { MayBring self.old (phase_turn self.old.shared.scene (core_at self.old false) client.old.number Phase_is.In) }
+        ensures event { IfOk result (λ o. o ≡ phase_turn self.old.shared.scene (core_at self.old false) client.old.number Phase_is.In) }
+        ensures made { IfOk result (λ o. Brings o self.old self.new client.old client.new) }
+        ensures err { OnErr result (Brings None self.old self.new client.old client.new) }
+    {
+        match self.act(client) {
+            Acted::Ran { entry } => Ok(Some(event_of(entry))),
+            Acted::Dies => Ok(Some(self.bury(alloc, client)?)),
+            Acted::MustLeave | Acted::Done => Ok(None),
+        }
+    }
+
+    // The client makes its next event in its side of the shared value, if it makes one there.
+    fn act(&mut self, client: &mut Client) -> Acted
+        requires seated { IsSeated self.old client.old }
+        requires phase { client.old.phase ≡ Phase_is.In }
+        ensures must_leave { (result ≡ Acted.MustLeave) ↔ MustGo client.old }
+        ensures dies { (result ≡ Acted.Dies) ↔ IsAtDeath client.old }
+        ensures done { (result ≡ Acted.Done) ↔ IsAtEnd client.old }
+        ensures event { IfRan result (λ e. next_event client.old (world_of self.old.shared) ≡ Some (event_of e)) }
+        ensures added { IfRan result (λ e. Added self.old.shared self.new.shared e) }
+        ensures fits { IfRan result (λ e. Fits client.new self.new.shared) }
+        ensures same { IfRan result (λ e. IsSameClient client.old client.new) }
+        ensures kept { UnlessRan result (client.new ≡ client.old) }
+        ensures site_kept { UnlessRan result (self.new ≡ self.old) }
+        ensures lock { self.new.lock ≡ self.old.lock }
+    {
+        let number = client.number();
+        let mut side = self.shared.client_side(number);
+        let acted = client.act(&mut side);
+        drop(side);
+        acted
+    }
+
+    // A client that asks is told what its window shows, or waits.
+    fn turn_asking(&mut self, alloc: Global, client: &mut Client) -> Result<Option<Event>, OutOfMemory>
+        requires seated { IsSeated self.old client.old }
+        requires living { client.old.dying ≡ false }
+        requires phase { client.old.phase ≡ Phase_is.Asking }
+        requires legal { MayBring self.old (phase_turn self.old.shared.scene (core_at self.old false) client.old.number Phase_is.Asking) }
+        ensures event { IfOk result (λ o. o ≡ phase_turn self.old.shared.scene (core_at self.old false) client.old.number Phase_is.Asking) }
+        ensures made { IfOk result (λ o. Brings o self.old self.new client.old client.new) }
+        ensures err { OnErr result (Brings None self.old self.new client.old client.new) }
+    {
+        if self.lock.lets_in(client.number()) {
+            return Ok(Some(self.inform(alloc, client)?));
+        }
+        Ok(self.wait_for(client))
+    }
+
+    // A client that is dying is gone, or waits.
+    fn turn_dying(&mut self, alloc: Global, client: &mut Client) -> Result<Option<Event>, OutOfMemory>
+        requires seated { IsSeated self.old client.old }
+        requires dying { client.old.dying ≡ true }
+        requires legal { MayBring self.old (or_waiting (core_at self.old true) client.old.number (Event.Gone client.old.number)) }
+        ensures event { IfOk result (λ o. o ≡ or_waiting (core_at self.old true) client.old.number (Event.Gone client.old.number)) }
+        ensures made { IfOk result (λ o. Brings o self.old self.new client.old client.new) }
+        ensures err { OnErr result (Brings None self.old self.new client.old client.new) }
+    {
+        if self.lock.lets_in(client.number()) {
+            return Ok(Some(self.bury(alloc, client)?));
+        }
+        Ok(self.wait_for(client))
+    }
+
+    // A client that can't go on joins the queue, or marks the word as the first there.
+    fn wait_for(&mut self, client: &Client) -> Option<Event>
+        requires seated { IsSeated self.old client.now }
+        ensures event { result ≡ waiting (core_at self.old client.now.dying) client.now.number }
+        ensures made { Brings result self.old self.new client.now client.now }
+    {
+        self.lock.wait(client.number())
+    }
+
+    /// The kill of a client: it is gone at once where it holds; where it hasn't ended it is stopped. It is passed over
+    /// where it is dying already, has ended, or is dead. After `OutOfMemory` all is as before.
+    pub(crate) fn kill_of(&mut self, alloc: Global, client: &mut Client) -> Result<Option<Event>, OutOfMemory>
+        requires seated { IsSeated self.old client.old }
+        requires resting { client.old.dying ≡ true → is_holding client.old.phase ≡ false }
+        requires legal { MayBring self.old (kill_at self.old client.old) }
+        ensures event { IfOk result (λ o. o ≡ kill_at self.old client.old) }
+        ensures made { IfOk result (λ o. Brings o self.old self.new client.old client.new) }
+        ensures err { OnErr result (Brings None self.old self.new client.old client.new) }
+    {
+        match client.phase() {
+            Phase::Old | Phase::In | Phase::Over | Phase::Ask => Ok(Some(self.bury(alloc, client)?)),
+            Phase::Out | Phase::Asking => Ok(Some(self.stop(client))),
+            Phase::Dying | Phase::Ended | Phase::Dead => Ok(None),
+        }
     }
 }
 
-/// A client that is out takes the word lightly where it left it last; else the kernel lets it in, or it waits.
-fn turn_out(shared: &mut Shared, lock: &mut Lock, client: &mut Client, number: u32) -> Option<Event>
-    requires seated { IsSeated shared.old client.old number }
-    requires living { client.old.dying ≡ false }
-    requires legal { MayBring shared.old (phase_turn shared.old.scene (core_at shared.old lock.old false) number Phase_is.Out) }
-    ensures event { result ≡ phase_turn shared.old.scene (core_at shared.old lock.old false) number Phase_is.Out }
-    ensures made { Brings result shared.old shared.new lock.old lock.new client.old client.new }
-{
-    if !lock.word.is_held() && lock.word.context() == number + 1 {
-        return Some(take_lightly(shared, lock, client, number));
-    }
-    if lets_in(lock, number) {
-        return Some(take_by_kernel(shared, lock, client, number));
-    }
-    wait_for(shared, lock, client, number)
-}
-
-/// A client that may act runs its next command, or makes ready for it, or dies.
-fn turn_in(
-    alloc: Global,
-    shared: &mut Shared,
-    lock: &mut Lock,
-    client: &mut Client,
-    number: u32,
-) -> Result<Option<Event>, OutOfMemory>
-    requires seated { IsSeated shared.old client.old number }
-    requires living { client.old.dying ≡ false }
-    requires phase { client.old.phase ≡ Phase_is.In }
-    requires legal { MayBring shared.old (phase_turn shared.old.scene (core_at shared.old lock.old false) number Phase_is.In) }
-    ensures event { IfOk result (λ o. o ≡ phase_turn shared.old.scene (core_at shared.old lock.old false) number Phase_is.In) }
-    ensures made { IfOk result (λ o. Brings o shared.old shared.new lock.old lock.new client.old client.new) }
-    ensures err { OnErr result (Brings None shared.old shared.new lock.old lock.new client.old client.new) }
-{
-    match act(shared, client, number) {
-        Acted::Ran { entry } => Ok(Some(event_of(entry))),
-        Acted::Dies => Ok(Some(bury(alloc, shared, lock, client, number)?)),
-        Acted::MustLeave => Ok(None),
-        Acted::Done => Ok(None),
-    }
-}
-
-/// The client makes its next event in its side of the shared value, if it makes one there.
-fn act(shared: &mut Shared, client: &mut Client, number: u32) -> Acted
-    requires seated { IsSeated shared.old client.old number }
-    requires phase { client.old.phase ≡ Phase_is.In }
-    ensures must_leave { (result ≡ Acted.MustLeave) ↔ MustGo client.old }
-    ensures dies { (result ≡ Acted.Dies) ↔ IsAtDeath client.old }
-    ensures done { (result ≡ Acted.Done) ↔ IsAtEnd client.old }
-    ensures event { IfRan result (λ e. next_event client.old (world_of shared.old) ≡ Some (event_of e)) }
-    ensures added { IfRan result (λ e. Added shared.old shared.new e) }
-    ensures fits { IfRan result (λ e. Fits client.new shared.new) }
-    ensures same { IfRan result (λ e. IsSameClient client.old client.new) }
-    ensures kept { UnlessRan result (client.new ≡ client.old) }
-    ensures shared_kept { UnlessRan result (shared.new ≡ shared.old) }
-{
-    let mut side = shared.client_side(number);
-    let acted = client.act(&mut side);
-    drop(side);
-    acted
-}
-
-/// The event whose entry this is; a leave is a light one.
+/// The event of a client that acts, whose entry this is.
 fn event_of(entry: Entry) -> Event
+    requires { is_still (event_of entry) ≡ true }
     ensures { result ≡ event_of entry }
 {
     match entry {
-        Entry::Light { client } => Event::Light { client },
-        Entry::Kernel { client, found } => Event::Kernel { client, found },
-        Entry::Stale { client } => Event::Stale { client },
         Entry::Emit { client, groups } => Event::Emit { client, groups },
         Entry::Place {
             client,
@@ -127,109 +169,6 @@ fn event_of(entry: Entry) -> Event
             count,
         },
         Entry::Run { client, place } => Event::Run { client, place },
-        Entry::Leave { client } => Event::LeaveLight { client },
-        Entry::Info { client } => Event::Info { client },
-        Entry::Change { place } => Event::Change { place },
-        Entry::Gone { client } => Event::Gone { client },
+        _ => unreachable!(),
     }
-}
-
-/// A client that asks is told what its window shows, or waits.
-fn turn_asking(
-    alloc: Global,
-    shared: &mut Shared,
-    lock: &mut Lock,
-    client: &mut Client,
-    number: u32,
-) -> Result<Option<Event>, OutOfMemory>
-    requires seated { IsSeated shared.old client.old number }
-    requires living { client.old.dying ≡ false }
-    requires phase { client.old.phase ≡ Phase_is.Asking }
-    requires legal { MayBring shared.old (phase_turn shared.old.scene (core_at shared.old lock.old false) number Phase_is.Asking) }
-    ensures event { IfOk result (λ o. o ≡ phase_turn shared.old.scene (core_at shared.old lock.old false) number Phase_is.Asking) }
-    ensures made { IfOk result (λ o. Brings o shared.old shared.new lock.old lock.new client.old client.new) }
-    ensures err { OnErr result (Brings None shared.old shared.new lock.old lock.new client.old client.new) }
-{
-    if lets_in(lock, number) {
-        return Ok(Some(inform(alloc, shared, lock, client, number)?));
-    }
-    Ok(wait_for(shared, lock, client, number))
-}
-
-/// A client that is dying is gone, or waits.
-fn turn_dying(
-    alloc: Global,
-    shared: &mut Shared,
-    lock: &mut Lock,
-    client: &mut Client,
-    number: u32,
-) -> Result<Option<Event>, OutOfMemory>
-    requires seated { IsSeated shared.old client.old number }
-    requires dying { client.old.dying ≡ true }
-    requires legal { MayBring shared.old (or_waiting (core_at shared.old lock.old true) number (Event.Gone number)) }
-    ensures event { IfOk result (λ o. o ≡ or_waiting (core_at shared.old lock.old true) number (Event.Gone number)) }
-    ensures made { IfOk result (λ o. Brings o shared.old shared.new lock.old lock.new client.old client.new) }
-    ensures err { OnErr result (Brings None shared.old shared.new lock.old lock.new client.old client.new) }
-{
-    if lets_in(lock, number) {
-        return Ok(Some(bury(alloc, shared, lock, client, number)?));
-    }
-    Ok(wait_for(shared, lock, client, number))
-}
-
-/// A client that can't go on joins the queue, or marks the word as the queue's front.
-fn wait_for(shared: &Shared, lock: &mut Lock, client: &Client, number: u32) -> Option<Event>
-    requires seated { IsSeated shared.now client.now number }
-    ensures event { result ≡ waiting (core_at shared.now lock.old client.now.dying) number }
-    ensures made { Brings result shared.now shared.now lock.old lock.new client.now client.now }
-{
-    let _scene = shared.journal();
-    let _phase = client.phase();
-    wait(lock, number)
-}
-
-/// The kill of a client: it is gone at once where it holds; where it hasn't ended it is stopped. It is passed over where
-/// it is dying already, has ended, or is dead. After `OutOfMemory` all is as before.
-pub(crate) fn kill_of(
-    alloc: Global,
-    shared: &mut Shared,
-    lock: &mut Lock,
-    client: &mut Client,
-    number: u32,
-) -> Result<Option<Event>, OutOfMemory>
-    requires seated { IsSeated shared.old client.old number }
-    requires resting { client.old.dying ≡ true → is_holding client.old.phase ≡ false }
-    requires legal { MayBring shared.old (kill (core_at shared.old lock.old client.old.dying) number) }
-    ensures event { IfOk result (λ o. o ≡ kill (core_at shared.old lock.old client.old.dying) number) }
-    ensures made { IfOk result (λ o. Brings o shared.old shared.new lock.old lock.new client.old client.new) }
-    ensures err { OnErr result (Brings None shared.old shared.new lock.old lock.new client.old client.new) }
-{
-    match client.phase() {
-        Phase::Old => kill_holder(alloc, shared, lock, client, number),
-        Phase::In => kill_holder(alloc, shared, lock, client, number),
-        Phase::Over => kill_holder(alloc, shared, lock, client, number),
-        Phase::Ask => kill_holder(alloc, shared, lock, client, number),
-        Phase::Out => Ok(Some(stop(shared, lock, client, number))),
-        Phase::Asking => Ok(Some(stop(shared, lock, client, number))),
-        Phase::Dying => Ok(None),
-        Phase::Ended => Ok(None),
-        Phase::Dead => Ok(None),
-    }
-}
-
-/// The kill of a client that holds.
-fn kill_holder(
-    alloc: Global,
-    shared: &mut Shared,
-    lock: &mut Lock,
-    client: &mut Client,
-    number: u32,
-) -> Result<Option<Event>, OutOfMemory>
-    requires seated { IsSeated shared.old client.old number }
-    requires legal { MayAdd shared.old (Entry_is.Gone number) }
-    ensures event { IfOk result (λ o. o ≡ Some (Event.Gone number)) }
-    ensures made { IfOk result (λ o. Brings o shared.old shared.new lock.old lock.new client.old client.new) }
-    ensures err { OnErr result (Brings None shared.old shared.new lock.old lock.new client.old client.new) }
-{
-    Ok(Some(bury(alloc, shared, lock, client, number)?))
 }

@@ -9,6 +9,7 @@ mod lock;
 mod rounds;
 mod schedule;
 mod server_turns;
+mod site;
 mod turned;
 mod turning;
 mod world;

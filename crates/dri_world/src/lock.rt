@@ -6,13 +6,13 @@ ghost use Rattle.dri_core.specs.Cores.{is_first, is_next, journal_of, word_numbe
 ghost use Rattle.dri_core.specs.EventTable.{leaves};
 ghost use Rattle.dri_core.specs.Turns.{core_after, one_event, waiting};
 ghost use Rattle.dri_shared.specs.States.{SharedState};
-ghost use Rattle.dri_world.specs.Locks.{core_at};
+ghost use Rattle.dri_world.specs.Sites.{core_at};
 
 use dri_base::Event;
 use dri_kernel::Queue;
 use std::marker::Model;
 
-/// The lock word: held or not, marked by the queue's front or not, and the context that holds it or that left it.
+/// The lock word: held or not, marked by the first in the queue or not, and the context that holds it or that left it.
 #[derive(Drop)]
 pub(crate) struct LockWord {
     held: bool,
@@ -99,68 +99,70 @@ pub(crate) struct Lock {
     pub(crate) queue: Queue,
 }
 
-/// Whether the actor could take the word through the kernel now: nobody holds it, and nobody waits before this actor.
-pub(crate) fn lets_in(lock: &Lock, actor: u32) -> bool
-    ensures { result ≡ (not lock.now.word.held && is_next actor lock.now.queue) }
-{
-    !lock.word.is_held() && is_next(&lock.queue, actor)
+impl Lock {
+    /// Whether the actor could take the word through the kernel now: nobody holds it, and nobody waits before this actor.
+    pub(crate) fn lets_in(&self, actor: u32) -> bool
+        ensures { result ≡ (not self.now.word.held && is_next actor self.now.queue) }
+    {
+        !self.word.is_held() && is_next(&self.queue, actor)
+    }
+
+    /// The kernel admits a client: it leaves the queue, and its context holds the word.
+    pub(crate) fn admit(&mut self, client: u32)
+        requires { client ≤ 32 }
+        ensures word { self.new.word ≡ record { held = true; contended = false; context = client + 1 } }
+        ensures queue { self.new.queue ≡ leaves client self.old.queue }
+    {
+        self.queue.remove(client);
+        self.word = LockWord::held_by(client + 1);
+    }
+
+    /// A whole hold of an actor ends: it leaves the queue, and the word with this context.
+    pub(crate) fn end_hold(&mut self, actor: u32, context: u32)
+        requires { context ≤ 33 }
+        ensures word { self.new.word ≡ record { held = false; contended = false; context = context } }
+        ensures queue { self.new.queue ≡ leaves actor self.old.queue }
+    {
+        self.queue.remove(actor);
+        self.word = LockWord::left_by(context);
+    }
+
+    /// An actor that can't go on joins the queue; once it is the first there it marks the held word.
+    pub(crate) fn wait(&mut self, actor: u32) -> Option<Event>
+        requires { actor ≤ 32 }
+        ensures event { (v : SharedState) (dying : Bool) → result ≡ waiting (core_at (record { shared = v; lock = self.old }) dying) actor }
+        ensures word { (v : SharedState) (dying : Bool) → self.new.word ≡ (core_after v.scene (core_at (record { shared = v; lock = self.old }) dying) result).word }
+        ensures queue { (v : SharedState) (dying : Bool) → self.new.queue ≡ (core_after v.scene (core_at (record { shared = v; lock = self.old }) dying) result).queue }
+        ensures entry { journal_of (one_event result) ≡ [] }
+    {
+        if !self.queue.contains(actor) {
+            self.queue.join(actor);
+            return Some(Event::Queue { actor });
+        }
+        if is_first(&self.queue, actor) && self.word.is_held() && !self.word.is_contended() {
+            self.word.mark();
+            return Some(Event::Mark { actor });
+        }
+        None
+    }
 }
 
-/// Whether the actor is the queue's front, or the queue is empty.
+/// Whether the actor is the first in the queue, or the queue is empty.
 fn is_next(queue: &Queue, actor: u32) -> bool
     ensures { result ≡ is_next actor queue.now }
 {
     match queue.front() {
-        Some(front) => front == actor,
+        Some(first) => first == actor,
         None => true,
     }
 }
 
-/// Whether the actor is the queue's front.
+/// Whether the actor is the first in the queue.
 fn is_first(queue: &Queue, actor: u32) -> bool
     ensures { result ≡ is_first actor queue.now }
 {
     match queue.front() {
-        Some(front) => front == actor,
+        Some(first) => first == actor,
         None => false,
     }
-}
-
-/// The kernel admits a client: it leaves the queue, and its context holds the word.
-pub(crate) fn admit(lock: &mut Lock, client: u32)
-    requires { client ≤ 32 }
-    ensures word { lock.new.word ≡ record { held = true; contended = false; context = client + 1 } }
-    ensures queue { lock.new.queue ≡ leaves client lock.old.queue }
-{
-    lock.queue.remove(client);
-    lock.word = LockWord::held_by(client + 1);
-}
-
-/// A whole hold of an actor ends: it leaves the queue, and the word with this context.
-pub(crate) fn end_hold(lock: &mut Lock, actor: u32, context: u32)
-    requires { context ≤ 33 }
-    ensures word { lock.new.word ≡ record { held = false; contended = false; context = context } }
-    ensures queue { lock.new.queue ≡ leaves actor lock.old.queue }
-{
-    lock.queue.remove(actor);
-    lock.word = LockWord::left_by(context);
-}
-
-/// An actor that can't go on joins the queue; once it is the queue's front it marks the held word.
-pub(crate) fn wait(lock: &mut Lock, actor: u32) -> Option<Event>
-    requires { actor ≤ 32 }
-    ensures event { (v : SharedState) (dying : Bool) → result ≡ waiting (core_at v lock.old dying) actor }
-    ensures word { (v : SharedState) (dying : Bool) → lock.new.word ≡ (core_after v.scene (core_at v lock.old dying) result).word }
-    ensures queue { (v : SharedState) (dying : Bool) → lock.new.queue ≡ (core_after v.scene (core_at v lock.old dying) result).queue }
-    ensures entry { journal_of (one_event result) ≡ [] }
-{
-    if !lock.queue.contains(actor) {
-        lock.queue.join(actor);
-        return Some(Event::Queue { actor });
-    }
-    if is_first(&lock.queue, actor) && lock.word.is_held() && !lock.word.is_contended() {
-        lock.word.mark();
-        return Some(Event::Mark { actor });
-    }
-    None
 }

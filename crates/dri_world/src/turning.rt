@@ -6,8 +6,7 @@ ghost use Rattle.dri_base.specs.Scenes.{is_named};
 ghost use Rattle.dri_core.specs.Turns.{kill, one_event, turn};
 ghost use Rattle.dri_world.specs.Courses.{GoesOn, IsActor, IsPassedOver, IsPastKilling, IsSound, LeavesLess, core_of, is_move, turned};
 
-use crate::client_turns::{kill_of, turn_of};
-use crate::server_turns::{SERVER, turn_of_server};
+use crate::server_turns::SERVER;
 use crate::turned::Turned;
 use crate::world::World;
 use dri_base::{Clients, Event, OutOfMemory};
@@ -16,7 +15,7 @@ use std::alloc::Global;
 impl World {
     /// The turn of an actor: 0 is the server, and k is client k of the scene. It makes the actor's one legal event, kills
     /// aside, and puts it last. It is passed over exactly where the actor is a client that has ended or is dead, or the
-    /// server with no change left; where it stands in the queue behind another; or where it is the queue's front and the
+    /// server with no change left; where it stands in the queue behind another; or where it is the first there and the
     /// word is held and contended. Then nothing changes, and nothing does after `OutOfMemory`.
     pub fn turn(&mut self, alloc: Global, actor: u32) -> Result<Turned, OutOfMemory>
         requires { IsActor self.old.scene actor }
@@ -42,11 +41,11 @@ impl World {
         ensures passed { IfOk result (λ t. (t ≡ Turned.Passed) ↔ IsPastKilling (core_of self.old) client) }
         ensures err { OnErr result (self.new ≡ self.old) }
     {
-        self.shared.reserve(1)?;
+        self.site.shared.reserve(1)?;
         self.events.reserve(1)?;
         let place = place_of(&self.scene.clients, client);
         let killed = &mut self.clients[place];
-        let made = kill_of(alloc, &mut self.shared, &mut self.lock, killed, client)?;
+        let made = self.site.kill_of(alloc, killed)?;
         Ok(note(&mut self.events, made))
     }
 
@@ -59,10 +58,10 @@ impl World {
         ensures less { IfOk result (λ t. LeavesLess self.old self.new (is_move t)) }
         ensures sound { OnOk result (IsSound self.new) }
     {
-        self.shared.reserve(1)?;
+        self.site.shared.reserve(1)?;
         self.events.reserve(1)?;
         let total = self.scene.changes.len() as u32;
-        let made = turn_of_server(alloc, &mut self.shared, &mut self.lock, total)?;
+        let made = self.site.turn_of_server(alloc, total)?;
         Ok(note(&mut self.events, made))
     }
 
@@ -80,10 +79,10 @@ impl World {
         ensures err { OnErr result (self.new ≡ self.old) }
         ensures less { IfOk result (λ t. LeavesLess self.old self.new (is_move t)) }
     {
-        self.shared.reserve(1)?;
+        self.site.shared.reserve(1)?;
         self.events.reserve(1)?;
         let client = &mut self.clients[place];
-        let made = turn_of(alloc, &mut self.shared, &mut self.lock, client, number)?;
+        let made = self.site.turn_of(alloc, client)?;
         Ok(note(&mut self.events, made))
     }
 }

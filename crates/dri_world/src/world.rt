@@ -1,4 +1,4 @@
-//! The world: the shared value, a client for each script in the scripts' order, the lock, and the events made. Its type
+//! The world: the shared value with its lock, a client for each script in the scripts' order, and the events made. Its type
 //! keeps that the events are a run of the scene, and that each part is that of the core which they leave. Room for an
 //! event is made before the event, so want of memory leaves all as it was.
 
@@ -13,6 +13,7 @@ ghost use Rattle.dri_shared.specs.Areas.{area_of};
 ghost use Rattle.dri_world.specs.Courses.{core_of};
 
 use crate::lock::{Lock, LockWord};
+use crate::site::Site;
 use dri_base::{Entry, Event, OutOfMemory, Rgb, Scene};
 use dri_driver::{Client, clients_of};
 use dri_kernel::Queue;
@@ -28,9 +29,8 @@ use std::sync::Arc;
 #[derive(Drop)]
 pub struct World {
     pub(crate) scene: Arc<Scene, Global>,
-    pub(crate) shared: Shared,
+    pub(crate) site: Site,
     pub(crate) clients: Vec<Client>,
-    pub(crate) lock: Lock,
     pub(crate) events: Vec<Event>,
 }
 
@@ -43,7 +43,7 @@ impl Model for World {
 
     ghost view = { λ a. record { scene = arc_value a.scene; events = a.events.items } };
 
-    ghost invariant = { λ a. IsHeld (arc_value a.scene) a.events.items a.shared a.lock a.clients.items };
+    ghost invariant = { λ a. IsHeld (arc_value a.scene) a.events.items a.site a.clients.items };
 }
 
 impl World {
@@ -60,9 +60,8 @@ impl World {
         };
         Ok(World {
             scene,
-            shared,
+            site: Site { shared, lock },
             clients,
-            lock,
             events: Vec::new(alloc),
         })
     }
@@ -71,7 +70,7 @@ impl World {
     pub fn word(&self) -> u32
         ensures { result ≡ word_number (core_of self.now).word }
     {
-        self.lock.word.number()
+        self.site.lock.word.number()
     }
 
     /// All events made, in order. They are a run of the scene, which is in range: no command of it changes a pixel
@@ -95,7 +94,7 @@ impl World {
         ensures run { HoldRun self.now.scene (journal_of self.now.events) }
         ensures world { after self.now.scene (journal_of self.now.events) ≡ world_of self.now.scene self.now.events }
     {
-        self.shared.journal()
+        self.site.shared.journal()
     }
 
     /// What the screen shows now.
@@ -104,14 +103,14 @@ impl World {
         ensures height { result.now.height ≡ self.now.scene.height }
         ensures pixels { result.now.pixels ≡ plane self.now.scene.width self.now.scene.height (world_of self.now.scene self.now.events).front }
     {
-        self.shared.front()
+        self.site.shared.front()
     }
 
     /// The shared area as it stands now, with the lock word.
     pub fn sarea(&self, alloc: Global) -> Result<Sarea, OutOfMemory>
         ensures { IfOk result (λ area. area ≡ area_of self.now.scene (world_of self.now.scene self.now.events) (word_number (core_of self.now).word)) }
     {
-        let word = self.lock.word.number();
-        self.shared.sarea(alloc, word)
+        let word = self.site.lock.word.number();
+        self.site.shared.sarea(alloc, word)
     }
 }
