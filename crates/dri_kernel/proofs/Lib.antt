@@ -1,1 +1,2 @@
+-- the queue
 mod Places

@@ -1,39 +1,32 @@
 -- Where nobody stands twice, 33 actors fill the queue.
-use Rattle.std.proofs.Common.{◌≡◌, ◌≢◌, ◌<◌, ◌≤◌, ℕ, ◌+◌, List, [], ◌∷◌, ◌++◌, length, get_or, true, false, sym, ◌∙◌, arith}
+use Rattle.std.proofs.Common.{◌≡◌, ◌≢◌, ◌<◌, ◌≤◌, ℕ, ◌+◌, List, [], ◌∷◌, ◌++◌, length, subst, arith}
 use Rattle.std.specs.Prelude.{◌==◌, not}
-use Rattle.std.proofs.lemmas.Bool.{true≢false}
-use Rattle.std.proofs.lemmas.Bool.Decides.{Decides-eqb, nat_tests}
+use Rattle.std.specs.List.{Contains}
+use Rattle.std.proofs.lemmas.Bool.{eqb-true}
+use Rattle.std.proofs.lemmas.Bool.Decides.{Decides-eqb}
 use Rattle.std.proofs.lemmas.List.{length-append}
-use Rattle.std.proofs.lemmas.List.Elements.{All-contains, All-filter, All-push}
-use Rattle.std.proofs.lemmas.List.Folds.{list_any_at}
+use Rattle.std.proofs.lemmas.List.Elements.{All-contains, All-filter, All-push, Contains-get_or}
 use Rattle.std.proofs.lemmas.List.Kept.{AllPairs-filter}
 use Rattle.std.proofs.lemmas.List.Quantifiers.{all_pairs_push}
 use Rattle.std.proofs.lemmas.Map.Made.{IsDistinct-from_AllPairs}
 use Rattle.std.proofs.lemmas.Map.Steps.{length-le_from_distinct_below}
 use Rattle.std.proofs.lemmas.Map.Views.{Contains-from_any}
-use Rattle.dri_kernel.specs.Waiting.{IsActor, IsQueue, is_queued, leaves}
-
-same_number : (a b : ℕ) → (a == b) ≡ true → a ≡ b
-same_number a b e = grind (arith, nat_tests)
+use Rattle.dri_kernel.specs.Waiting.{IsActor, IsQueue, leaves}
 
 -- there are no more than there are actors
 pub no_more : (queue : List ℕ) → IsQueue queue → length queue ≤ 33
 no_more queue good = length-le_from_distinct_below queue 33 (IsDistinct-from_AllPairs Decides-eqb queue good.once)
-    (λ q here. let small = All-contains IsActor queue q good.actors (Contains-from_any same_number q queue here) in omega (arith, small))
+    (λ q here. let small = All-contains IsActor queue q good.actors (Contains-from_any eqb-true q queue here) in omega (arith, small))
 
 -- an actor that isn't there may come last
-pub joined : (queue : List ℕ) (a : ℕ) → IsQueue queue → IsActor a → is_queued a queue ≡ false → IsQueue (queue ++ a ∷ [])
+pub joined : (queue : List ℕ) (a : ℕ) → IsQueue queue → IsActor a → (Contains queue a → ⊥) → IsQueue (queue ++ a ∷ [])
 joined queue a good actor absent = record {
   actors = All-push IsActor queue a good.actors actor;
-  once = all_pairs_push ◌≢◌ queue a good.once (λ k d within same.
-      true≢false (sym (list_any_at (λ b. b == a) queue k d within (is_same (get_or queue k d) same)) ∙ absent));
+  once = all_pairs_push ◌≢◌ queue a good.once (λ k d within same. absent (subst (Contains queue) same (Contains-get_or queue k d within)));
 }
-  where
-    is_same : (b : ℕ) → b ≡ a → (b == a) ≡ true
-    is_same b same = grind (arith, nat_tests)
 
 -- and then there was room
-pub room : (queue : List ℕ) (a : ℕ) → IsQueue queue → IsActor a → is_queued a queue ≡ false → length queue < 33
+pub room : (queue : List ℕ) (a : ℕ) → IsQueue queue → IsActor a → (Contains queue a → ⊥) → length queue < 33
 room queue a good actor absent =
     let full = no_more (queue ++ a ∷ []) (joined queue a good actor absent) in
     let longer : length (queue ++ a ∷ []) ≡ length queue + 1 = length-append queue (a ∷ []) in

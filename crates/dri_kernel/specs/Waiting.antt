@@ -1,14 +1,10 @@
 -- The actors that wait for the lock, the first first.
-use Rattle.std.specs.Prelude.{◌≤◌, ◌≢◌, ℕ, List, Bool, not, ◌==◌, All, AllPairs}
-use Rattle.std.specs.List.{filter, list_any}
+use Rattle.std.specs.Prelude.{◌≤◌, ◌≢◌, ℕ, List, not, ◌==◌, All, AllPairs}
+use Rattle.std.specs.List.{filter}
 
 -- an actor: 0 is the server, 1 to 32 are the clients
 abbrev pub IsActor : ℕ → Type 0
 IsActor a = a ≤ 32
-
--- the actor is in the queue
-abbrev pub is_queued : ℕ → List ℕ → Bool
-is_queued a queue = list_any (λ b. b == a) queue
 
 -- the queue once the actor has left it
 abbrev pub leaves : ℕ → List ℕ → List ℕ

@@ -8,7 +8,7 @@ ghost use Rattle.dri_kernel.specs.Calls.{IsTakenAfter, IsUnlocked, IsReleased};
 ghost use Rattle.dri_kernel.specs.Waiting.{IsActor};
 
 use crate::queue::Queue;
-use dri_hwlock::{Guarded, Hold, HwLock, Late, Left, Marked, Pass, Refused};
+use dri_hwlock::{Guarded, Hold, HwLock, Late, Left, Marked, Pass};
 use std::array;
 use std::hint::spin_loop;
 use std::sync::{Condvar, Mutex, Wait};
@@ -19,6 +19,22 @@ const TRIES: u32 = 1024;
 
 // The actors: the server and 32 clients.
 const ACTORS: usize = 33;
+
+// How often the front has tried.
+#[derive(Drop)]
+struct Tries(u32);
+
+impl Tries {
+    // Whether the front has tried often enough; else it has a moment more.
+    fn are_over(&mut self) -> bool {
+        if self.0 < TRIES {
+            self.0 += 1;
+            spin_loop();
+            return false;
+        }
+        true
+    }
+}
 
 /// The queue of those that wait, behind a mutex, and for each actor what it sleeps on. It is shared
 /// by `&`.
@@ -38,7 +54,8 @@ impl Kernel {
     }
 
     /// Takes the lock in its turn, as actor 0 to 32, after a light exchange that failed. It may wait,
-    /// and never refuses. The hold is one that `HwLock::take` could have given.
+    /// and never refuses. No other thread waits as this actor meanwhile, since nobody would wake it.
+    /// The hold is one that `HwLock::take` could have given.
     pub fn lock<G: Guarded>(
         &self,
         rt: &impl Wait,
@@ -59,7 +76,7 @@ impl Kernel {
         if !queue.contains(actor) {
             queue.join(actor);
         }
-        let mut tries = 0;
+        let mut tries = Tries(0);
         for _ in rt.forever() {
             let mut sleeps = true;
             if queue.front() == Some(actor) {
@@ -69,20 +86,9 @@ impl Kernel {
                         self.wake_front(&queue);
                         return hold;
                     }
-                    Err(Refused::Held { word: _, token }) => token,
-                    Err(
-                        Refused::Moved {
-                            loaded: _,
-                            found: _,
-                            token,
-                        },
-                    ) => token,
+                    Err(refused) => refused.into_token(),
                 };
-                sleeps = tries == TRIES && matches!(hw.mark(&mut late), Marked::Contended { .. });
-                if tries < TRIES {
-                    tries += 1;
-                    spin_loop();
-                }
+                sleeps = tries.are_over() && matches!(hw.mark(&mut late), Marked::Contended { .. });
             }
             if sleeps {
                 queue = self.sleepers[actor as usize].wait(rt, queue);
@@ -92,7 +98,8 @@ impl Kernel {
     }
 
     /// Takes the lock in its turn, as actor 0 to 32, in the name of context 1. Any pass may do so. It
-    /// may wait, and never refuses. The hold is one that `HwLock::take_as_server` could have given.
+    /// may wait, and never refuses. No other thread waits as this actor meanwhile, since nobody would
+    /// wake it. The hold is one that `HwLock::take_as_server` could have given.
     pub fn lock_as_server<G: Guarded>(
         &self,
         rt: &impl Wait,
@@ -112,7 +119,7 @@ impl Kernel {
         if !queue.contains(actor) {
             queue.join(actor);
         }
-        let mut tries = 0;
+        let mut tries = Tries(0);
         for _ in rt.forever() {
             let mut sleeps = true;
             if queue.front() == Some(actor) {
@@ -122,21 +129,10 @@ impl Kernel {
                         self.wake_front(&queue);
                         return hold;
                     }
-                    Err(Refused::Held { word: _, token }) => token,
-                    Err(
-                        Refused::Moved {
-                            loaded: _,
-                            found: _,
-                            token,
-                        },
-                    ) => token,
+                    Err(refused) => refused.into_token(),
                 };
-                sleeps = tries == TRIES
+                sleeps = tries.are_over()
                     && matches!(hw.mark_as_server(&mut pass), Marked::Contended { .. });
-                if tries < TRIES {
-                    tries += 1;
-                    spin_loop();
-                }
             }
             if sleeps {
                 queue = self.sleepers[actor as usize].wait(rt, queue);

@@ -1,7 +1,7 @@
 //! The actors that wait for the lock, in the order in which they came: a vector in fixed memory, with room for all 33.
 
-ghost use Rattle.std.specs.Prelude.{◌≡◌, ◌++◌, [], ◌∷◌, ◌↔◌, ◌≤◌, IsTrue, false, slice_get, length};
-ghost use Rattle.dri_kernel.specs.Waiting.{IsActor, IsQueue, is_queued, leaves};
+ghost use Rattle.std.specs.Prelude.{◌≡◌, ◌++◌, [], ◌∷◌, ◌↔◌, ◌≤◌, IsTrue, Contains, slice_get, length};
+ghost use Rattle.dri_kernel.specs.Waiting.{IsActor, IsQueue, leaves};
 
 use arrayvec::ArrayVec;
 use std::marker::Model;
@@ -37,7 +37,7 @@ impl Queue {
     /// Puts an actor last, 0 to 32. It doesn't wait yet, so there is room for it.
     pub fn join(&mut self, actor: u32)
         requires actor { IsActor actor }
-        requires absent { is_queued actor self.old ≡ false }
+        requires absent { ¬ Contains self.old actor }
         ensures { self.new ≡ self.old ++ actor ∷ [] }
     {
         self.actors.push(actor);
@@ -59,7 +59,7 @@ impl Queue {
 
     /// Whether the actor waits.
     pub fn contains(&self, actor: u32) -> bool
-        ensures { result ≡ is_queued actor self.now }
+        ensures { IsTrue result ↔ Contains self.now actor }
     {
         self.actors.contains(&actor)
     }
