@@ -81,7 +81,11 @@ impl Site {
     }
 
     /// The client, which asks, is told what its window shows, and leaves the queue. After `OutOfMemory` all is as before.
-    pub(crate) fn inform(&mut self, alloc: Global, client: &mut Client) -> Result<Event, OutOfMemory>
+    pub(crate) fn inform(
+        &mut self,
+        alloc: Global,
+        client: &mut Client,
+    ) -> Result<Event, OutOfMemory>
         requires seated { IsSeated self.old client.old }
         requires legal { MayAdd self.old.shared (Entry_is.Info client.old.number) }
         ensures event { IfOk result (λ e. e ≡ Event.Info client.old.number) }

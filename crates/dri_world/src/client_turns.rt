@@ -17,7 +17,11 @@ use std::alloc::Global;
 
 impl Site {
     /// The turn of a client: its one legal event, kills aside, or none. After `OutOfMemory` all is as before.
-    pub(crate) fn turn_of(&mut self, alloc: Global, client: &mut Client) -> Result<Option<Event>, OutOfMemory>
+    pub(crate) fn turn_of(
+        &mut self,
+        alloc: Global,
+        client: &mut Client,
+    ) -> Result<Option<Event>, OutOfMemory>
         requires seated { IsSeated self.old client.old }
         requires legal { MayBring self.old (turn_at self.old client.old) }
         ensures event { IfOk result (λ o. o ≡ turn_at self.old client.old) }
@@ -93,7 +97,11 @@ impl Site {
     }
 
     // A client that asks is told what its window shows, or waits.
-    fn turn_asking(&mut self, alloc: Global, client: &mut Client) -> Result<Option<Event>, OutOfMemory>
+    fn turn_asking(
+        &mut self,
+        alloc: Global,
+        client: &mut Client,
+    ) -> Result<Option<Event>, OutOfMemory>
         requires seated { IsSeated self.old client.old }
         requires living { client.old.dying ≡ false }
         requires phase { client.old.phase ≡ Phase_is.Asking }
@@ -109,7 +117,11 @@ impl Site {
     }
 
     // A client that is dying is gone, or waits.
-    fn turn_dying(&mut self, alloc: Global, client: &mut Client) -> Result<Option<Event>, OutOfMemory>
+    fn turn_dying(
+        &mut self,
+        alloc: Global,
+        client: &mut Client,
+    ) -> Result<Option<Event>, OutOfMemory>
         requires seated { IsSeated self.old client.old }
         requires dying { client.old.dying ≡ true }
         requires legal { MayBring self.old (or_waiting (core_at self.old true) client.old.number (Event.Gone client.old.number)) }
@@ -134,7 +146,11 @@ impl Site {
 
     /// The kill of a client: it is gone at once where it holds; where it hasn't ended it is stopped. It is passed over
     /// where it is dying already, has ended, or is dead. After `OutOfMemory` all is as before.
-    pub(crate) fn kill_of(&mut self, alloc: Global, client: &mut Client) -> Result<Option<Event>, OutOfMemory>
+    pub(crate) fn kill_of(
+        &mut self,
+        alloc: Global,
+        client: &mut Client,
+    ) -> Result<Option<Event>, OutOfMemory>
         requires seated { IsSeated self.old client.old }
         requires resting { client.old.dying ≡ true → is_holding client.old.phase ≡ false }
         requires legal { MayBring self.old (kill_at self.old client.old) }
@@ -143,7 +159,9 @@ impl Site {
         ensures err { OnErr result (Brings None self.old self.new client.old client.new) }
     {
         match client.phase() {
-            Phase::Old | Phase::In | Phase::Over | Phase::Ask => Ok(Some(self.bury(alloc, client)?)),
+            Phase::Old | Phase::In | Phase::Over | Phase::Ask => Ok(Some(self.bury(
+                alloc, client,
+            )?)),
             Phase::Out | Phase::Asking => Ok(Some(self.stop(client))),
             Phase::Dying | Phase::Ended | Phase::Dead => Ok(None),
         }

@@ -17,7 +17,11 @@ pub(crate) const SERVER: u32 = 0;
 impl Site {
     /// The turn of the server: its one legal event, or none. The scene has `total` changes. After `OutOfMemory` all is as
     /// before.
-    pub(crate) fn turn_of_server(&mut self, alloc: Global, total: u32) -> Result<Option<Event>, OutOfMemory>
+    pub(crate) fn turn_of_server(
+        &mut self,
+        alloc: Global,
+        total: u32,
+    ) -> Result<Option<Event>, OutOfMemory>
         requires room { 1 ≤ self.old.shared.spare }
         requires total { total ≡ length self.old.shared.scene.changes }
         requires legal { MayBring self.old (server_turn self.old.shared.scene (core_at self.old false)) }
