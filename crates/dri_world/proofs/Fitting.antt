@@ -8,7 +8,7 @@ use Rattle.dri_base.specs.declared.command.Command.TheVariants.{Set, Clear, Tria
 use Rattle.dri_base.specs.declared.journal.Entry.{Entry}
 use Rattle.dri_base.specs.declared.journal.Entry.TheVariants as Entry_is
 use Rattle.dri_base.specs.declared.journal.Event.{Event}
-use Rattle.dri_base.specs.declared.journal.Event.TheVariants.{Light, Kernel, Queue, Mark, Stale, Emit, Place, Run, LeaveLight, LeaveKernel, Info, Change, Stop, Gone}
+use Rattle.dri_base.specs.declared.journal.Event.TheVariants.{Emit, Run, Info, Gone}
 use Rattle.dri_base.specs.declared.scene.Scene.{Scene}
 use Rattle.std.proofs.lemmas.List.{append-nil}
 use Rattle.dri_driver.specs.Acts.{IfRan, event_of}
