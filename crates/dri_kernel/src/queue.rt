@@ -1,6 +1,7 @@
 //! The actors that wait for the lock, in the order in which they came: a vector in fixed memory, with room for all 33.
 
-ghost use Rattle.std.specs.Prelude.{◌≡◌, ◌++◌, [], ◌∷◌, ◌↔◌, ◌≤◌, IsTrue, Contains, slice_get, length};
+ghost use Rattle.std.specs.Prelude.{◌≡◌, ◌++◌, [], ◌∷◌, ◌↔◌, ◌≤◌, ◌==◌, IsTrue, Contains, slice_get, length};
+ghost use Rattle.std.specs.List.{list_any};
 ghost use Rattle.dri_kernel.specs.Waiting.{IsActor, IsQueue, leaves};
 
 use arrayvec::ArrayVec;
@@ -59,7 +60,8 @@ impl Queue {
 
     /// Whether the actor waits.
     pub fn contains(&self, actor: u32) -> bool
-        ensures { IsTrue result ↔ Contains self.now actor }
+        ensures member { IsTrue result ↔ Contains self.now actor }
+        ensures test { result ≡ list_any (λ waiting. waiting == actor) self.now }
     {
         self.actors.contains(&actor)
     }
