@@ -1,5 +1,5 @@
 -- Words of sixteen and eight bits, there and back.
-use Rattle.std.proofs.Common.{◌≡◌, ℕ, ◌+◌, ◌-◌, ◌*◌, ◌/◌, ◌%◌, ◌<◌, ◌≤◌, ℤ, pos, negsuc, ◌+ℤ◌, ◌-ℤ◌, nat_abs, int_lt, nat_lt, ap, ◌∙◌, inl, inr, arith}
+use Rattle.std.proofs.Common.{◌≡◌, ℕ, ◌+◌, ◌-◌, ◌*◌, ◌/◌, ◌%◌, ◌<◌, ◌≤◌, pos, negsuc, ◌+ℤ◌, ◌-ℤ◌, nat_abs, int_lt, nat_lt, ap, ◌∙◌, inl, inr, arith}
 use Rattle.std.proofs.lemmas.Int.{ints}
 use Rattle.std.proofs.lemmas.Bool.{cases_lt, lt-ltb, le-ltb, cond-true, cond-false}
 use Rattle.std.proofs.Math.Nat.{div-div-eq-div-mul}
@@ -23,26 +23,6 @@ low_of h small = elim (cases_lt h 32768) as (λ _. low_half (coordinate_of h) �
       let back : negsuc k +ℤ pos 65536 ≡ pos h = omega (arith, ints) in
       ap low_half (cond-false (nat_lt h 32768) (pos h) (pos h -ℤ pos 65536) (le-ltb h 32768 high) ∙ e) ∙ low_neg k ∙ ap nat_abs back
 ]
-
--- a coordinate as sixteen bits, and back
-pub coordinate_back : (v : ℤ) → IsVertexPlace v → coordinate_of (low_half v) ≡ v
-coordinate_back (pos n) inside =
-    let most : n < 32768 = grind (arith, ints, inside.1) in
-    ap coordinate_of (low_pos n) ∙ cond-true (nat_lt n 32768) (pos n) (pos n -ℤ pos 65536) (lt-ltb n 32768 most)
-coordinate_back (negsuc n) inside =
-    let least : n < 32768 = grind (arith, ints, inside.0) in
-    let h : ℕ = 65535 - n in
-    let e : negsuc n +ℤ pos 65536 ≡ pos h = omega (arith, ints) in
-    let high : 32768 ≤ h = omega arith in
-    let back : pos h -ℤ pos 65536 ≡ negsuc n = omega (arith, ints) in
-    ap coordinate_of (low_neg n ∙ ap nat_abs e) ∙ cond-false (nat_lt h 32768) (pos h) (pos h -ℤ pos 65536) (le-ltb h 32768 high) ∙ back
-
-pub low_small : (v : ℤ) → IsVertexPlace v → low_half v ≤ 65535
-low_small (pos n) inside = let most : n < 32768 = grind (arith, ints, inside.1) in rw (low_pos n) (omega arith)
-low_small (negsuc n) inside =
-    let least : n < 32768 = grind (arith, ints, inside.0) in
-    let e : negsuc n +ℤ pos 65536 ≡ pos (65535 - n) = omega (arith, ints) in
-    rw (low_neg n, e) (omega arith)
 
 pub coordinate_inside : (h : ℕ) → h ≤ 65535 → IsVertexPlace (coordinate_of h)
 coordinate_inside h small = elim (cases_lt h 32768) as (λ _. IsVertexPlace (coordinate_of h)) [

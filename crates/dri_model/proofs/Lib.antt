@@ -1,7 +1,10 @@
+-- counting and runs of regions
 pub mod Counts
-pub mod Values
-pub mod Touches
 pub mod Rooms
+-- words: each list spells one thing, and goes wrong at one place at most
+pub mod Values
 pub mod Spelling
-pub mod Faults
 pub mod Buffers
+pub mod Faults
+-- the stack
+pub mod Touches

@@ -106,12 +106,6 @@ bound_one (Some a) (Some b) r t e = λ k. Some (record { shape = record { format
     height : a.shape.height ≡ b.shape.height
     height = omega (arith, sides, r.0.1, t.0.1)
 
-scissor_length : (a b : Option ClipRect) → length (scissor_words a) ≡ length (scissor_words b)
-scissor_length None None = refl
-scissor_length None (Some b) = refl
-scissor_length (Some a) None = refl
-scissor_length (Some a) (Some b) = refl
-
 scissor_one : (a b : Option ClipRect) → IsScissorInRange a → IsScissorInRange b → scissor_words a ≡ scissor_words b → a ≡ b
 scissor_one None None r t e = refl
 scissor_one None (Some b) r t e = absurd (omega (arith, head_same 0 1 _ _ e))

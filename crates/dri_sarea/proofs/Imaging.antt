@@ -42,9 +42,6 @@ lock_on a = zero_values 64 ++ drawables_on a
 abbrev pub padding_on : Area → List ℕ
 padding_on a = zero_values 60 ++ lock_on a
 
-pub values_is : (a : Area) → values a ≡ a.word ∷ padding_on a
-values_is a = refl
-
 length_shown : (a : Area) → length the_drawables ≡ length (shown a)
 length_shown a = length_pieces (λ i. drawable_fields) (λ i. drawable_values (get_or a.drawables i no_drawable)) 256 (λ i l. refl)
 

@@ -1,19 +1,20 @@
 -- Areas that are made, and areas that are the same.
-use Rattle.std.proofs.Common.{◌≡◌, ◌<◌, ◌≤◌, ◌+◌, ◌-◌, ◌^◌, ℕ, zero, suc, List, [], ◌∷◌, ◌++◌, length, drop, get_or, set, replicate, Bool, true, false, None, arith, refl, sym, subst, ◌∙◌, ap, length-append, inl, inr}
+use Rattle.std.proofs.Common.{◌≡◌, ◌<◌, ◌≤◌, ◌+◌, ◌-◌, ◌^◌, ℕ, zero, suc, List, [], ◌∷◌, length, drop, get_or, set, replicate, Bool, true, false, None, arith, refl, sym, subst, ◌∙◌, ap, length-append, inl, inr}
 use Rattle.std.specs.Prelude.{◌⊎◌, ◌==◌, ◌&&◌, ◌||◌, not, nat_lt, nat_le, if◌then◌else◌, All}
-use Rattle.std.proofs.lemmas.Bool.{cases_eq}
+use Rattle.std.proofs.lemmas.Bool.{cases_eq, lt-ltb, le-leb}
 use Rattle.std.proofs.lemmas.Bool.Decides.{nat_tests}
 use Rattle.std.proofs.lemmas.List.{same_lists, get_or_default, append_cancel_left, append_cancel_right, length-replicate, length-set, get_or-set_same, get_or-set_other}
 use Rattle.std.proofs.lemmas.List.Elements.{All-get_or}
 use Rattle.std.proofs.lemmas.List.FromFn.{get_or-map-range_with_len, length-map-range_with_len}
 use Rattle.std.proofs.Math.ListN.{get_or-append}
 use Rattle.std.proofs.Math.Seq.{get_or-append_right}
+use Rattle.dri_model.proofs.Spelling.{append_same}
 use Rattle.dri_base.specs.Ranges.{IsRegionSize}
 use Rattle.dri_base.specs.declared.texture.TexRegion.{TexRegion}
+use Rattle.dri_base.specs.Limits.{word_end}
 use Rattle.dri_model.specs.Counting.{any_from, least}
 use Rattle.dri_model.specs.Heaps.{Heap, stands_before}
 use Rattle.dri_texheap.specs.Ring.{entry, entries, foremost}
-use Rattle.dri_texheap.proofs.Counted.{any_at}
 use Rattle.dri_sarea.specs.declared.drawable.Drawable.{Drawable}
 use Rattle.dri_sarea.specs.declared.layout.Width.{Width}
 use Rattle.dri_sarea.specs.declared.layout.Width.TheVariants.{Byte, Number}
@@ -26,20 +27,14 @@ use Rattle.dri_sarea.proofs.Pieces.{length_pieces, length_entry, held_pieces, he
 use Rattle.dri_sarea.proofs.Parts.{the_drawables, the_entries}
 use Rattle.dri_sarea.proofs.Imaging.{shown, listed, rest_values, numbers_on, drawables_on, lock_on, padding_on, all_held, count_is, values_back, read_is, read_held, read_image}
 
-less_true : (a b : ℕ) → a < b → nat_lt a b ≡ true
-less_true a b l = grind (arith, nat_tests)
-
-most_true : (a b : ℕ) → a ≤ b → nat_le a b ≡ true
-most_true a b l = grind (arith, nat_tests)
-
 within_fits : (w : Width) (least most v : ℕ) → v < 256 ^ bytes_in w → least ≤ v → v ≤ most → fits (record { width = w; range = Within least most }) v ≡ true
-within_fits w least most v s l m = rw (less_true v (256 ^ bytes_in w) s, most_true least v l, most_true v most m) refl
+within_fits w least most v s l m = rw (lt-ltb v (256 ^ bytes_in w) s, le-leb least v l, le-leb v most m) refl
 
-any_fits : (v : ℕ) → v < 4294967296 → fits (number Any) v ≡ true
-any_fits v s = rw (less_true v 4294967296 s) refl
+any_fits : (v : ℕ) → v < word_end → fits (number Any) v ≡ true
+any_fits v s = rw (lt-ltb v word_end s) refl
 
-size_fits : (v : ℕ) → v < 4294967296 → IsRegionSize v → fits (number RegionSize) v ≡ true
-size_fits v s sized = rw (less_true v 4294967296 s, sized) refl
+size_fits : (v : ℕ) → v < word_end → IsRegionSize v → fits (number RegionSize) v ≡ true
+size_fits v s sized = rw (lt-ltb v word_end s, sized) refl
 
 -- the entries of a list of regions
 least_most : (p : ℕ → Bool) (n : ℕ) → least p n ≤ n
@@ -58,9 +53,9 @@ use_most false = omega arith
 foremost_most : (n : ℕ) (before : ℕ → ℕ → Bool) (has : ℕ → Bool) → foremost n before has ≤ n
 foremost_most n before has = least_most (λ j. has j && not (any_from (λ k. has k && before k j) 0 n)) n
 
-entry_fits : (n : ℕ) (h : Heap) (i : ℕ) → n ≤ 64 → i ≤ n → (entry n h i).age < 4294967296 → are_held (entry_fields n i) (entry_values n i (entry n h i)) ≡ true
+entry_fits : (n : ℕ) (h : Heap) (i : ℕ) → n ≤ 64 → i ≤ n → (entry n h i).age < word_end → are_held (entry_fields n i) (entry_values n i (entry n h i)) ≡ true
 entry_fits n h i m l s =
-    rw (most_true i n l)
+    rw (le-leb i n l)
     (rw (
       within_fits Byte 0 n (entry n h i).next (omega (arith, next, m)) (omega arith) next,
       within_fits Byte 0 n (entry n h i).prev (omega (arith, prev, m)) (omega arith) prev,
@@ -103,9 +98,9 @@ entries_is list n i h m long e set left = same_lists list (all_entries n h) (lon
     at k false q = let l : i ≤ k = grind (arith, nat_tests) in left k l ∙ sym (none_above n h k (omega (arith, l, e)))
 
 -- an area with these parts has an image
-pub made : (a : Area) (h : Heap) → a.word < 4294967296 → length a.drawables ≡ 256 → All (λ d. d.flags ≤ 1) a.drawables → ((i : ℕ) → (get_or a.drawables i no_drawable).stamp < 4294967296)
-    → (1 ≤ a.width) × (a.width ≤ 1024) → (1 ≤ a.height) × (a.height ≤ 1024) → a.owner ≤ 33 → a.age < 4294967296 → 0 < a.region_count → a.region_count ≤ 64 → IsRegionSize a.region_size → a.region_size < 4294967296
-    → a.regions ≡ all_entries a.region_count h → ((i : ℕ) → (get_or a.regions i no_region).age < 4294967296) → IsArea a
+pub made : (a : Area) (h : Heap) → a.word < word_end → length a.drawables ≡ 256 → All (λ d. d.flags ≤ 1) a.drawables → ((i : ℕ) → (get_or a.drawables i no_drawable).stamp < word_end)
+    → (1 ≤ a.width) × (a.width ≤ 1024) → (1 ≤ a.height) × (a.height ≤ 1024) → a.owner ≤ 33 → a.age < word_end → 0 < a.region_count → a.region_count ≤ 64 → IsRegionSize a.region_size → a.region_size < word_end
+    → a.regions ≡ all_entries a.region_count h → ((i : ℕ) → (get_or a.regions i no_region).age < word_end) → IsArea a
 made a h word shows flags stamps wide high owner age some most sized small lists ages = record {
   drawables = shows;
   regions = ap (λ (rs : List TexRegion). length rs) lists ∙ all_length a.region_count h most;
@@ -125,7 +120,7 @@ made a h word shows flags stamps wide high owner age some most sized small lists
     listing i true e =
         let l : i ≤ a.region_count = grind (arith, nat_tests) in
         let same : get_or a.regions i no_region ≡ entry a.region_count h i = ap (λ (rs : List TexRegion). get_or rs i no_region) lists ∙ entry_at a.region_count h i l in
-        subst (λ r. are_held (entry_fields a.region_count i) (entry_values a.region_count i r) ≡ true) (sym same) (entry_fits a.region_count h i most l (subst (λ r. r.age < 4294967296) same (ages i)))
+        subst (λ r. are_held (entry_fields a.region_count i) (entry_values a.region_count i r) ≡ true) (sym same) (entry_fits a.region_count h i most l (subst (λ r. r.age < word_end) same (ages i)))
     listing i false e = rw e (held_zeros 8)
 
 -- the area that is read from an image in which nothing is bad
@@ -139,22 +134,13 @@ read_area bytes a small long good word width height owner age count size shows l
     (record { drawables = drawables; regions = regions; unused = unused; held = held }, read_image bytes a small long e held)
 
 -- an image is that of one area
-cancel_both : (xs ys us vs : List ℕ) → length xs ≡ length ys → xs ++ us ≡ ys ++ vs → (xs ≡ ys) × (us ≡ vs)
-cancel_both [] [] us vs l e = (refl, e)
-cancel_both [] (y ∷ ys) us vs l e = absurd (omega (arith, l))
-cancel_both (x ∷ xs) [] us vs l e = absurd (omega (arith, l))
-cancel_both (x ∷ xs) (y ∷ ys) us vs l e =
-    let head : x ≡ y = ap (λ (zs : List ℕ). get_or zs 0 0) e in
-    let r = cancel_both xs ys us vs (omega (arith, l)) (ap (λ (zs : List ℕ). drop 1 zs) e) in
-    (λ i. head i ∷ r.0 i, r.1)
-
 piece_same : (p q : ℕ → List ℕ) (k i : ℕ) → ((i : ℕ) → length (p i) ≡ length (q i)) → pieces p k ≡ pieces q k → i < k → p i ≡ q i
 unfolding pieces
 piece_same p q zero i h e l = absurd (omega arith)
 piece_same p q (suc k) i h e l = by (cases_eq i k) (piece_same p q k i h)
   where
     r : (pieces p k ≡ pieces q k) × (p k ≡ q k)
-    r = cancel_both (pieces p k) (pieces q k) (p k) (q k) (length_pieces p q k (λ i l. h i)) e
+    r = append_same (pieces p k) (pieces q k) (p k) (q k) (length_pieces p q k (λ i l. h i)) e
 
     by : (i ≡ k) ⊎ (i ≡ k → ⊥) → (pieces p k ≡ pieces q k → i < k → p i ≡ q i) → p i ≡ q i
     by (inl same) below = rw same r.1
@@ -165,7 +151,7 @@ same_drawable c d e = let s = ap (λ (xs : List ℕ). get_or xs 0 0) e in let f 
 
 same_entry : (n i : ℕ) (r s : TexRegion) → i ≤ n → entry_values n i r ≡ entry_values n i s → r ≡ s
 same_entry n i r s l h =
-    let e : r.next ∷ r.prev ∷ r.in_use ∷ 0 ∷ r.age ∷ [] ≡ s.next ∷ s.prev ∷ s.in_use ∷ 0 ∷ s.age ∷ [] = rw (most_true i n l) at h in
+    let e : r.next ∷ r.prev ∷ r.in_use ∷ 0 ∷ r.age ∷ [] ≡ s.next ∷ s.prev ∷ s.in_use ∷ 0 ∷ s.age ∷ [] = rw (le-leb i n l) at h in
     let a = ap (λ (xs : List ℕ). get_or xs 0 0) e in
     let b = ap (λ (xs : List ℕ). get_or xs 1 0) e in
     let c = ap (λ (xs : List ℕ). get_or xs 2 0) e in
@@ -183,7 +169,7 @@ one_area a b h k e =
     let padding : padding_on a ≡ padding_on b = ap (λ (xs : List ℕ). drop 1 xs) all in
     let lock : lock_on a ≡ lock_on b = append_cancel_left (zero_values 60) (lock_on a) (lock_on b) padding in
     let drawables : drawables_on a ≡ drawables_on b = append_cancel_left (zero_values 64) (drawables_on a) (drawables_on b) lock in
-    let shows = cancel_both (shown a) (shown b) (numbers_on a) (numbers_on b) (length_pieces (λ i. drawable_values (get_or a.drawables i no_drawable)) (λ i. drawable_values (get_or b.drawables i no_drawable)) 256 (λ i l. refl)) drawables in
+    let shows = append_same (shown a) (shown b) (numbers_on a) (numbers_on b) (length_pieces (λ i. drawable_values (get_or a.drawables i no_drawable)) (λ i. drawable_values (get_or b.drawables i no_drawable)) 256 (λ i l. refl)) drawables in
     let width : a.width ≡ b.width = ap (λ (xs : List ℕ). get_or xs 2 0) shows.1 in
     let height : a.height ≡ b.height = ap (λ (xs : List ℕ). get_or xs 3 0) shows.1 in
     let owner : a.owner ≡ b.owner = ap (λ (xs : List ℕ). get_or xs 6 0) shows.1 in
@@ -225,9 +211,9 @@ set_here list i r f room e h k l = by (cases_eq k i)
     by (inl same) = subst (λ n. get_or (set list i r) n no_region ≡ f n) (sym same) (get_or-set_same list i r no_region room ∙ e)
     by (inr other) = set_other list i k r other ∙ h k (omega (arith, other, l))
 
-pub set_each : (list : List TexRegion) (i : ℕ) (r : TexRegion) → i < length list → r.age < 4294967296 → ((k : ℕ) → (get_or list k no_region).age < 4294967296) → (k : ℕ) → (get_or (set list i r) k no_region).age < 4294967296
+pub set_each : (list : List TexRegion) (i : ℕ) (r : TexRegion) → i < length list → r.age < word_end → ((k : ℕ) → (get_or list k no_region).age < word_end) → (k : ℕ) → (get_or (set list i r) k no_region).age < word_end
 set_each list i r room s h k = by (cases_eq k i)
   where
-    by : (k ≡ i) ⊎ (k ≡ i → ⊥) → (get_or (set list i r) k no_region).age < 4294967296
-    by (inl same) = subst (λ n. (get_or (set list i r) n no_region).age < 4294967296) (sym same) (subst (λ r. r.age < 4294967296) (sym (get_or-set_same list i r no_region room)) s)
-    by (inr other) = subst (λ r. r.age < 4294967296) (sym (set_other list i k r other)) (h k)
+    by : (k ≡ i) ⊎ (k ≡ i → ⊥) → (get_or (set list i r) k no_region).age < word_end
+    by (inl same) = subst (λ n. (get_or (set list i r) n no_region).age < word_end) (sym same) (subst (λ r. r.age < word_end) (sym (get_or-set_same list i r no_region room)) s)
+    by (inr other) = subst (λ r. r.age < word_end) (sym (set_other list i k r other)) (h k)

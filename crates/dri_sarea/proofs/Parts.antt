@@ -1,5 +1,5 @@
 -- The parts of the layout, one after another.
-use Rattle.std.proofs.Common.{◌≡◌, ◌<◌, ◌+◌, ◌^◌, ℕ, zero, suc, List, [], ◌∷◌, ◌++◌, drop, Bool, true, false, Some, None, arith, refl, sym, ◌∙◌, ap}
+use Rattle.std.proofs.Common.{◌≡◌, ◌<◌, ◌+◌, ◌^◌, ℕ, zero, suc, List, [], ◌∷◌, ◌++◌, Bool, true, None, arith, refl, sym, ◌∙◌, ap}
 use Rattle.std.specs.Prelude.{◌&&◌, nat_lt, nat_le}
 use Rattle.std.proofs.lemmas.Bool.{and_parts}
 use Rattle.std.proofs.lemmas.List.{append-nil}
@@ -7,7 +7,7 @@ use Rattle.std.proofs.lemmas.Bool.Decides.{nat_tests}
 use Rattle.dri_sarea.specs.declared.layout.Field.{Field}
 use Rattle.dri_sarea.specs.declared.layout.Width.TheVariants.{Number}
 use Rattle.dri_sarea.specs.declared.layout.Range.TheVariants.{Any, Within, RegionSize}
-use Rattle.dri_sarea.specs.Layouts.{bytes_in, holds, byte, number, size, pieces, zero_fields, zero_values, drawable_fields, entry_fields, table, layout}
+use Rattle.dri_sarea.specs.Layouts.{bytes_in, byte, number, size, pieces, zero_fields, zero_values, drawable_fields, entry_fields, table, layout}
 use Rattle.dri_sarea.specs.Images.{fits, number_at, numbers_at, first_bad, FollowOn}
 use Rattle.dri_sarea.proofs.Fields.{first_bad_after, first_bad_split, numbers_append, held_good}
 use Rattle.dri_sarea.proofs.Bytes.{AreBytes, number_small}
@@ -43,9 +43,6 @@ from_lock n = zero_fields 64 ++ from_drawables n
 
 abbrev pub from_padding : ℕ → List Field
 from_padding n = zero_fields 60 ++ from_lock n
-
-pub layout_is : (n : ℕ) → layout n ≡ number Any ∷ from_padding n
-layout_is n = refl
 
 pub size_drawables : size the_drawables ≡ 2048
 size_drawables = size_eights (λ i. drawable_fields) 256 (λ i. refl)
@@ -105,34 +102,6 @@ all_good bytes n h good =
     let e = split bytes 2216 2736 (the_entries n) from_rest (omega (arith, size_entries n)) d.1 in
     let f = first_bad_split bytes 2736 (zero_fields 5456) [] e.1 in
     record { padding = a.0; lock = b.0; drawables = c.0; numbers = d.0; entries = e.0; rest = f.0 }
-
--- one field of a list is tested
-pub field_passed : (bytes : List ℕ) (at place i v : ℕ) (fields : List Field) (f : Field) → drop i fields ≡ f ∷ drop (i + 1) fields → v ≡ number_at bytes place (bytes_in f.width) → v < 256 ^ bytes_in f.width → holds f.range v ≡ true
-    → first_bad bytes at fields ≡ first_bad bytes place (drop i fields) → first_bad bytes at fields ≡ first_bad bytes (place + bytes_in f.width) (drop (i + 1) fields)
-field_passed bytes at place i v fields f d e l r h = h ∙ ap (λ (fs : List Field). first_bad bytes place fs) d ∙ step
-  where
-    good : fits f (number_at bytes place (bytes_in f.width)) ≡ true
-    good = rw (← e, less v (256 ^ bytes_in f.width) l, r) refl
-      where
-        less : (a b : ℕ) → a < b → nat_lt a b ≡ true
-        less a b l = grind (arith, nat_tests)
-
-    step : first_bad bytes place (f ∷ drop (i + 1) fields) ≡ first_bad bytes (place + bytes_in f.width) (drop (i + 1) fields)
-    step = rw good refl
-
-pub field_stopped : (bytes : List ℕ) (at place i v : ℕ) (fields : List Field) (f : Field) → drop i fields ≡ f ∷ drop (i + 1) fields → v ≡ number_at bytes place (bytes_in f.width) → holds f.range v ≡ false
-    → first_bad bytes at fields ≡ first_bad bytes place (drop i fields) → first_bad bytes at fields ≡ Some place
-field_stopped bytes at place i v fields f d e r h = h ∙ ap (λ (fs : List Field). first_bad bytes place fs) d ∙ step
-  where
-    never : (a b : Bool) → b ≡ false → (a && b) ≡ false
-    never true b e = e
-    never false b e = refl
-
-    bad : fits f (number_at bytes place (bytes_in f.width)) ≡ false
-    bad = rw (← e) (never (nat_lt v (256 ^ bytes_in f.width)) (holds f.range v) r)
-
-    step : first_bad bytes place (f ∷ drop (i + 1) fields) ≡ Some place
-    step = rw bad refl
 
 -- a number that has to be 0 is 0
 pub is_zero : (f : Field) (v : ℕ) → f.range ≡ Within 0 0 → fits f v ≡ true → v ≡ 0

@@ -1,5 +1,5 @@
 -- What a writer has put so far.
-use Rattle.std.proofs.Common.{◌≡◌, ◌<◌, ◌≤◌, ◌+◌, ◌^◌, ℕ, zero, suc, List, [], ◌∷◌, ◌++◌, length, drop, get_or, true, arith, refl, sym, ◌∙◌, ap, append_assoc}
+use Rattle.std.proofs.Common.{◌≡◌, ◌<◌, ◌+◌, ◌^◌, ℕ, suc, List, ◌∷◌, ◌++◌, length, drop, get_or, true, arith, sym, ◌∙◌, ap, append_assoc}
 use Rattle.std.specs.Prelude.{nat_lt}
 use Rattle.std.proofs.lemmas.Bool.{and_parts}
 use Rattle.std.proofs.lemmas.Bool.Decides.{nat_tests}
@@ -11,21 +11,12 @@ use Rattle.dri_sarea.specs.Layouts.{bytes_in, holds, pieces}
 use Rattle.dri_sarea.specs.Images.{written, fits, are_held}
 use Rattle.dri_sarea.proofs.Pieces.{written_more}
 
-pub drop_end : {A : Type 0} (n : ℕ) (xs : List A) → length xs ≤ n → drop n xs ≡ []
-drop_end zero [] l = refl
-drop_end zero (x ∷ xs) l = absurd (omega (arith, l))
-drop_end (suc n) [] l = refl
-drop_end (suc n) (x ∷ xs) l = drop_end n xs (omega (arith, l))
-
 pub drop_next : {A : Type 0} (xs : List A) (i : ℕ) (d : A) → i < length xs → drop i xs ≡ get_or xs i d ∷ drop (i + 1) xs
 drop_next xs i d l = let e : i + 1 ≡ suc i = omega arith in rw e (drop-cons xs i d l)
 
 pub put_none : (out : List ℕ) (p : ℕ → List Field) (q : ℕ → List ℕ) → out ≡ out ++ written (pieces p 0) (pieces q 0)
 unfolding pieces
 put_none out p q = sym (append-nil out)
-
-pub put_end : (out old : List ℕ) (fields : List Field) (values : List ℕ) (i : ℕ) → length fields ≤ i → out ++ written (drop i fields) (drop i values) ≡ old ++ written fields values → out ≡ old ++ written fields values
-put_end out old fields values i l h = sym (append-nil out) ∙ ap (λ (fs : List Field). out ++ written fs (drop i values)) (sym (drop_end i fields l)) ∙ h
 
 pub put_step : (out old : List ℕ) (fields : List Field) (values : List ℕ) (i v : ℕ) (f : Field) → drop i fields ≡ f ∷ drop (i + 1) fields → drop i values ≡ v ∷ drop (i + 1) values
     → out ++ written (drop i fields) (drop i values) ≡ old ++ written fields values → (out ++ little_bytes (bytes_in f.width) v) ++ written (drop (i + 1) fields) (drop (i + 1) values) ≡ old ++ written fields values

@@ -1,5 +1,5 @@
 -- The layout of the shared area: its fields one after another, each with its bytes, its range, and what an area has there.
-use Rattle.std.specs.Prelude.{ℕ, zero, suc, ◌+◌, ◌^◌, List, [], ◌∷◌, ◌++◌, flat_map, get_or, Bool, true, ◌==◌, ◌&&◌, nat_le, if◌then◌else◌}
+use Rattle.std.specs.Prelude.{ℕ, zero, suc, ◌+◌, List, [], ◌∷◌, ◌++◌, flat_map, get_or, Bool, true, ◌&&◌, nat_le, if◌then◌else◌}
 use Rattle.dri_base.specs.declared.texture.TexRegion.{TexRegion}
 use Rattle.dri_base.specs.Ranges.{is_region_size}
 use Rattle.dri_sarea.specs.declared.drawable.Drawable.{Drawable}

@@ -1,10 +1,15 @@
+-- lists and texts
 pub mod TextSizes
 pub mod Numbers
-pub mod SoundSteps
 pub mod Joins
 pub mod Written
 pub mod Splitting
+
+-- what is read is in range
+pub mod SoundSteps
+
+-- what is printed is read again
 pub mod PrintedWords
 pub mod PrintedLines
-pub mod ReadBack
 pub mod Sections
+pub mod ReadBack

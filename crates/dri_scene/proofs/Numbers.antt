@@ -20,14 +20,6 @@ is_listed number n (x ∷ xs) found = elim (eqb_tells (number x) n) as (λ _. Co
   | inr other ↦ contains_cons (number x) n (map number xs) (is_listed number n xs (rw other.0 at found))
 ]
 
--- a number that is found among numbers
-pub is_among : (ns : List ℕ) (n : ℕ) → list_any (λ m. n == m) ns ≡ true → Contains ns n
-is_among [] n found = absurd (false≢true found)
-is_among (m ∷ ms) n found = elim (eqb_tells n m) as (λ _. Contains (m ∷ ms) n) [
-  | inl same ↦ (0, omega arith, sym same.1)
-  | inr other ↦ contains_cons m n ms (is_among ms n (rw other.0 at found))
-]
-
 or_true : (b : Bool) → (b || true) ≡ true
 or_true true = refl
 or_true false = refl
@@ -98,7 +90,3 @@ fine x = Ok x
 
 pub ok_same : {A : Type 0} (x y : A) → fine x ≡ fine y → x ≡ y
 ok_same x y is = cc
-
-pub not_false : (b : Bool) → not b ≡ false → b ≡ true
-not_false true is = refl
-not_false false is = absurd (false≢true (sym is))

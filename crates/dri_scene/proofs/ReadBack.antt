@@ -1,7 +1,7 @@
 -- The printed lines, one after another, lead from the empty reading to the scene.
 use Rattle.std.proofs.Common.{◌≡◌, ℕ, ◌+◌, true, false, ◌&&◌, List, [], ◌∷◌, ◌++◌, map, length, Some, Ok, refl, sym, ap, ◌∙◌, subst, codes}
 use Rattle.std.specs.List.{list_all, flat_map}
-use Rattle.std.proofs.lemmas.Bool.{false≢true}
+use Rattle.std.proofs.lemmas.Bool.{false≢true, and_parts}
 use Rattle.dri_base.specs.declared.scene.Scene.{Scene}
 use Rattle.dri_words.specs.Parts.{parts_at, is_nil}
 use Rattle.dri_scene.specs.declared.form.Form.{Form}
@@ -14,7 +14,7 @@ use Rattle.dri_scene.specs.declared.reading.Reading.{Reading}
 use Rattle.dri_scene.specs.Places.{place_after, is_end}
 use Rattle.dri_scene.specs.Readings.{taken, after_words, after_bytes, is_passed_over, up_to_done, scene_of, opening}
 use Rattle.dri_scene.specs.Texts.{scene_lines, scene_text, line_bytes}
-use Rattle.dri_scene.proofs.Splitting.{is_printed, spaced, split_words, split_lines, both}
+use Rattle.dri_scene.proofs.Splitting.{is_printed, spaced, split_words, split_lines}
 use Rattle.dri_scene.proofs.PrintedLines.{IsRead, done_read}
 
 -- a line whose words are printed, and which isn't passed over
@@ -78,7 +78,7 @@ mapped_end (x ∷ xs) l = ap (λ t. spaced x ∷ t) (mapped_end xs l)
 
 printed_end : (ls : List (List (List ℕ))) (l : List (List ℕ)) → list_all is_printed ls ≡ true → is_printed l ≡ true → list_all is_printed (ls ++ l ∷ []) ≡ true
 printed_end [] l all last = ap (λ t. t && true) last
-printed_end (x ∷ xs) l all last = let here = both (is_printed x) (list_all is_printed xs) all in ap (λ t. t && list_all is_printed (xs ++ l ∷ [])) here.0 ∙ printed_end xs l here.1 last
+printed_end (x ∷ xs) l all last = let here = and_parts (is_printed x) (list_all is_printed xs) all in ap (λ t. t && list_all is_printed (xs ++ l ∷ [])) here.0 ∙ printed_end xs l here.1 last
 
 -- lines that lead to a scene's last place spell the scene
 pub spelled : (s : Scene) (q : Reading) (ls : List (List (List ℕ))) → scene_lines s ≡ ls ++ (codes "done" ∷ []) ∷ [] → Leads_to opening ls q → place_after q.place forms.Done ≡ Some places.End → q.scene ≡ s → scene_of (scene_text s) ≡ Ok s

@@ -1,7 +1,7 @@
 -- Each line that is allowed keeps a reading sound.
 use Rattle.std.proofs.Common.{◌≡◌, ◌≢◌, ◌<◌, ◌≤◌, ◌⊎◌, inl, inr, ℕ, zero, suc, ◌+◌, ◌*◌, ◌/◌, List, [], ◌∷◌, ◌++◌, length, Bool, true, false, not, ◌==◌, ◌||◌, Option, Some, None, Ok, refl, sym, ap, ◌∙◌, subst, arith, ℤ, nat_le, nat_lt}
 use Rattle.std.specs.List.{All, AllPairs, list_any}
-use Rattle.std.proofs.lemmas.Bool.{false≢true, leb-false, ltb-false, eqb-true}
+use Rattle.std.proofs.lemmas.Bool.{false≢true, leb-false, ltb-false, eqb-true, not-false}
 use Rattle.std.proofs.lemmas.Bool.Decides.{eqb_tells}
 use Rattle.std.proofs.lemmas.List.{length-append, append-nil}
 use Rattle.std.proofs.lemmas.List.Elements.{All-push, All-head, All-tail, filter_map-append}
@@ -38,7 +38,7 @@ use Rattle.dri_base.specs.Ranges.{is_region_size}
 use Rattle.dri_scene.specs.Places.{place_after, place_behind_clients, place_in_script, is_in_client, is_end}
 use Rattle.dri_scene.specs.Readings.{with_window, has_window, with_client, owns, is_owner, with_texture, image_bytes, with_command, names_textures, with_change, window_changed, with_item, names_client, kills_again, with_end, with_screen, with_heap, no_script, opening, taken}
 use Rattle.dri_scene.specs.Shapes.{IsLineOf, IsCommandOf, IsSettingRanged, IsChangeRanged, IsTextureRanged}
-use Rattle.dri_scene.proofs.Numbers.{is_listed, is_among, not_among, apart_push, rising_push, below_more, most_push, passed, ok_same, not_false}
+use Rattle.dri_scene.proofs.Numbers.{is_listed, not_among, apart_push, rising_push, below_more, most_push, passed, ok_same}
 use Rattle.dri_words.specs.declared.reason.Reason.TheVariants as reasons
 use Rattle.dri_scene.specs.declared.line.Line.{Line}
 use Rattle.dri_scene.specs.declared.line.Line.TheVariants as lines
@@ -94,10 +94,6 @@ windowed r w next at sound range is =
       block = subst (λ p. BlockAt p r) at sound.block;
     })
 
--- the card's numbers, where only the lists differ
-card_of : (s t : Scene) → s.width ≡ t.width → s.height ≡ t.height → s.regions ≡ t.regions → s.region_size ≡ t.region_size → CardInRange s → CardInRange t
-card_of s t w h n z card = record { wide = subst IsSide w card.wide; high = subst IsSide h card.high; regions = subst (IsWithin 1 64) n card.regions; sized = subst IsRegionSize z card.sized }
-
 -- the place where a client's line is allowed
 record IsBefore (q : Place) (r : Reading) : Type 0 where
   leads : q ≡ places.Textures
@@ -139,7 +135,7 @@ begun r number window next middle none before range is =
         record {
           client = record {
             numbered = range;
-            owns = owner_is (owner_of r.scene.windows window) number (not_false _ first.0);
+            owns = owner_is (owner_of r.scene.windows window) number (not-false _ first.0);
             textured = record { each = λ k d in'. absurd (omega (arith, in')); rising = λ i j d up in'. absurd (omega (arith, in')) };
             commanded = record { each = λ k d in'. absurd (omega (arith, in')); last = λ k in'. absurd (omega (arith, in')) };
           };
@@ -265,7 +261,7 @@ commanded r q form c next at before of is =
         owns = at.block.client.owns;
         textured = at.block.client.textured;
         commanded = record {
-          each = All-push (CommandInRange (texture_numbers r.script.textures)) r.script.commands c at.block.client.commanded.each (command_ranged r.script.textures form c (not_false _ first.0) of);
+          each = All-push (CommandInRange (texture_numbers r.script.textures)) r.script.commands c at.block.client.commanded.each (command_ranged r.script.textures form c (not-false _ first.0) of);
           last = dies_last r.script.commands c at.alive;
         };
       };
@@ -364,7 +360,7 @@ changed r c next at sound range is =
         most = before.most;
         counted = before.counted;
         few = before.few;
-        changes = record { few = simp length-append (omega (arith, fits)); each = All-push (ChangeInRange (window_numbers s.windows)) s.changes c before.changes.each (change_ranged s.windows c (not_false _ first.0) range) };
+        changes = record { few = simp length-append (omega (arith, fits)); each = All-push (ChangeInRange (window_numbers s.windows)) s.changes c before.changes.each (change_ranged s.windows c (not-false _ first.0) range) };
         turns = before.turns;
       };
       head = record { wide = card.wide; high = card.high; regions = card.regions; sized = card.sized };
@@ -415,7 +411,7 @@ scheduled r i next at sound is =
         counted = before.counted;
         few = before.few;
         changes = before.changes;
-        turns = record { few = simp length-append (omega (arith, fits)); each = All-push (ItemInRange (client_numbers s.clients)) s.turns i before.turns.each (item_ranged s.clients i (not_false _ first.0)); once = once_more s.turns i second.0 before.turns.once };
+        turns = record { few = simp length-append (omega (arith, fits)); each = All-push (ItemInRange (client_numbers s.clients)) s.turns i before.turns.each (item_ranged s.clients i (not-false _ first.0)); once = once_more s.turns i second.0 before.turns.once };
       };
       head = record { wide = card.wide; high = card.high; regions = card.regions; sized = card.sized };
       block = subst (λ p. BlockAt p r) at sound.block;

@@ -1,7 +1,7 @@
 -- The age classes below a bound, and the regions that these make room with.
 use Rattle.std.proofs.Common.{◌≡◌, ◌<◌, ◌≤◌, ◌+◌, ◌-◌, ℕ, zero, suc, Bool, true, false, not, arith, refl, sym, ◌∙◌}
 use Rattle.std.specs.Prelude.{◌==◌, ◌&&◌, nat_lt, nat_le}
-use Rattle.std.proofs.lemmas.Bool.{true≢false, and_parts}
+use Rattle.std.proofs.lemmas.Bool.{true≢false, and_parts, lt-ltb, le-ltb, ltb-true, eqb-true, not-true}
 use Rattle.std.proofs.lemmas.Bool.Decides.{nat_tests}
 use Rattle.dri_model.specs.Counting.{any_from}
 use Rattle.dri_model.specs.Heaps.{Heap, leads_class, older_classes, is_room, fits, lowest_place}
@@ -9,20 +9,8 @@ use Rattle.dri_model.proofs.Counts.{some_from, none_from}
 use Rattle.dri_texheap.specs.Search.{is_available, are_available, classes_below, NowhereBefore}
 use Rattle.dri_texheap.proofs.Counted.{any_same, how_many_grows, how_many_more, least_none, least_at}
 
-less_true : (a b : ℕ) → a < b → nat_lt a b ≡ true
-less_true a b l = grind (arith, nat_tests)
-
-less_false : (a b : ℕ) → b ≤ a → nat_lt a b ≡ false
-less_false a b l = grind (arith, nat_tests)
-
-less_is : (a b : ℕ) → nat_lt a b ≡ true → a < b
-less_is a b e = grind (arith, nat_tests)
-
 less_not : (a b : ℕ) → nat_lt a b ≡ false → b ≤ a
 less_not a b e = grind (arith, nat_tests)
-
-same_is : (a b : ℕ) → (a == b) ≡ true → a ≡ b
-same_is a b e = grind (arith, nat_tests)
 
 same_self : (a : ℕ) → (a == a) ≡ true
 same_self a = grind (arith, nat_tests)
@@ -37,14 +25,10 @@ leader h (suc m) k l u = by (leader h m) (any_from (λ i. h.used i && (h.age i =
     by below true e = let r = some_from (λ i. h.used i && (h.age i == h.age k)) 0 k e in
         let q = and_parts (h.used r.0) (h.age r.0 == h.age k) r.3 in
         let s = below r.0 (omega (arith, r.2)) q.0 in
-        (s.0, omega (arith, s.1, r.2), s.2, s.3 ∙ same_is (h.age r.0) (h.age k) q.1)
+        (s.0, omega (arith, s.1, r.2), s.2, s.3 ∙ eqb-true (h.age r.0) (h.age k) q.1)
 
 pub leader_used : (h : Heap) (j : ℕ) → leads_class h j ≡ true → h.used j ≡ true
 leader_used h j e = (and_parts (h.used j) (not (any_from (λ i. h.used i && (h.age i == h.age j)) 0 j)) e).0
-
-not_true : (b : Bool) → not b ≡ true → b ≡ false
-not_true false e = refl
-not_true true e = absurd (true≢false (sym e))
 
 -- a class has one that stands for it
 leader_least : (h : Heap) (i j : ℕ) → leads_class h i ≡ true → leads_class h j ≡ true → h.age i ≡ h.age j → j ≤ i
@@ -52,10 +36,10 @@ leader_least h i j d e a = by (nat_lt i j) refl
   where
     by : (b : Bool) → nat_lt i j ≡ b → j ≤ i
     by false l = less_not i j l
-    by true l = absurd (true≢false (sym both ∙ none_from (λ k. h.used k && (h.age k == h.age j)) 0 j i none (omega arith) (omega (arith, less_is i j l))))
+    by true l = absurd (true≢false (sym both ∙ none_from (λ k. h.used k && (h.age k == h.age j)) 0 j i none (omega arith) (omega (arith, ltb-true i j l))))
       where
         none : any_from (λ k. h.used k && (h.age k == h.age j)) 0 j ≡ false
-        none = not_true _ (and_parts (h.used j) (not (any_from (λ k. h.used k && (h.age k == h.age j)) 0 j)) e).1
+        none = not-true _ (and_parts (h.used j) (not (any_from (λ k. h.used k && (h.age k == h.age j)) 0 j)) e).1
 
         both : (h.used i && (h.age i == h.age j)) ≡ true
         both = rw (leader_used h i d, a, same_self (h.age j)) refl
@@ -69,17 +53,17 @@ older_is n h bound k l u = by (nat_lt (h.age k) bound) refl
   where
     by : (b : Bool) → nat_lt (h.age k) bound ≡ b → nat_lt (older_classes n h k) (classes_below n h bound) ≡ nat_lt (h.age k) bound
     by true e = let s = leader h (suc k) k (omega arith) u in
-        rw e (less_true _ _ (how_many_more (λ j. leads_class h j && nat_lt (h.age j) (h.age k)) (λ j. leads_class h j && nat_lt (h.age j) bound) n s.0 (omega (arith, s.1))
-        (rw (s.2, s.3, less_false (h.age k) (h.age k) (omega arith)) refl)
+        rw e (lt-ltb _ _ (how_many_more (λ j. leads_class h j && nat_lt (h.age j) (h.age k)) (λ j. leads_class h j && nat_lt (h.age j) bound) n s.0 (omega (arith, s.1))
+        (rw (s.2, s.3, le-ltb (h.age k) (h.age k) (omega arith)) refl)
         (rw (s.2, s.3, e) refl)
         (λ j m f. up (leads_class h j) (h.age j) f)))
       where
         up : (c : Bool) (a : ℕ) → (c && nat_lt a (h.age k)) ≡ true → (c && nat_lt a bound) ≡ true
-        up c a f = let q = and_parts c (nat_lt a (h.age k)) f in rw (q.0, less_true a bound (omega (arith, less_is a (h.age k) q.1, less_is (h.age k) bound e))) refl
-    by false e = rw e (less_false _ _ (how_many_grows (λ j. leads_class h j && nat_lt (h.age j) bound) (λ j. leads_class h j && nat_lt (h.age j) (h.age k)) n (λ j m f. up (leads_class h j) (h.age j) f)))
+        up c a f = let q = and_parts c (nat_lt a (h.age k)) f in rw (q.0, lt-ltb a bound (omega (arith, ltb-true a (h.age k) q.1, ltb-true (h.age k) bound e))) refl
+    by false e = rw e (le-ltb _ _ (how_many_grows (λ j. leads_class h j && nat_lt (h.age j) bound) (λ j. leads_class h j && nat_lt (h.age j) (h.age k)) n (λ j m f. up (leads_class h j) (h.age j) f)))
       where
         up : (c : Bool) (a : ℕ) → (c && nat_lt a bound) ≡ true → (c && nat_lt a (h.age k)) ≡ true
-        up c a f = let q = and_parts c (nat_lt a bound) f in rw (q.0, less_true a (h.age k) (omega (arith, less_is a bound q.1, less_not (h.age k) bound e))) refl
+        up c a f = let q = and_parts c (nat_lt a bound) f in rw (q.0, lt-ltb a (h.age k) (omega (arith, ltb-true a bound q.1, less_not (h.age k) bound e))) refl
 
 -- the classes below the bound make room with the available regions
 pub room_is : (n : ℕ) (h : Heap) (bound k : ℕ) → k < n → is_room n h (classes_below n h bound) k ≡ is_available h bound k
@@ -96,12 +80,9 @@ fits_is n h bound count first l =
     inside : nat_le (first + count) n ≡ true
     inside = grind (arith, nat_tests)
 
-fits_not : (n : ℕ) (h : Heap) (m count first : ℕ) → n < first + count → fits n h m count first ≡ false
-fits_not n h m count first l = let e : nat_le (first + count) n ≡ false = grind (arith, nat_tests) in rw e refl
-
 -- where the search finds no place, the classes below the bound don't make room
 pub no_place : (n : ℕ) (h : Heap) (bound count : ℕ) → NowhereBefore h bound count (n - count + 1) → nat_lt (lowest_place n h count (classes_below n h bound)) n ≡ false
-no_place n h bound count none = rw (least_none (fits n h (classes_below n h bound) count) n (λ k l. at k (nat_le (k + count) n) refl)) (less_false n n (omega arith))
+no_place n h bound count none = rw (least_none (fits n h (classes_below n h bound) count) n (λ k l. at k (nat_le (k + count) n) refl)) (le-ltb n n (omega arith))
   where
     at : (k : ℕ) (b : Bool) → nat_le (k + count) n ≡ b → fits n h (classes_below n h bound) count k ≡ false
     at k false e = rw e refl

@@ -1,8 +1,11 @@
+-- the choice of a run
 pub mod Counted
 pub mod Classes
-pub mod Choosing
 pub mod Passing
+pub mod Choosing
+-- the list of the regions
 pub mod Ordering
 pub mod Linked
+-- what calls leave
 pub mod Heaped
 pub mod Losing

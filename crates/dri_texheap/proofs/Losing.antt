@@ -7,24 +7,10 @@ use Rattle.dri_model.specs.Heaps.{Run, any_in, lose}
 use Rattle.dri_texheap.specs.RegionStates.{IsInside}
 use Rattle.dri_texheap.specs.Placements.{placed_of, AreInside}
 
-pub lost_each : (p : ℕ → Bool) (runs left : List (Option Run)) → ((k : ℕ) → get_or left k None ≡ lose p (get_or runs k None)) → placed_of left ≡ (λ t. lose p (placed_of runs t))
-lost_each p runs left h = λ i t. each t i
-  where
-    each : (t : ℕ) → placed_of left t ≡ lose p (placed_of runs t)
-    each zero = refl
-    each (suc t) = h t
-
 nothing : (n k : ℕ) → get_or {A = Option Run} (replicate n None) k None ≡ None
 nothing zero k = refl
 nothing (suc n) zero = refl
 nothing (suc n) (suc k) = nothing n k
-
-pub none_placed : (n : ℕ) → placed_of (replicate n None) ≡ (λ t. None)
-none_placed n = λ i t. each t i
-  where
-    each : (t : ℕ) → placed_of (replicate n None) t ≡ None
-    each zero = refl
-    each (suc t) = nothing n t
 
 -- the slots from place i on are as they were, so they lie inside
 pub inside_at : (n : ℕ) (p : ℕ → Bool) (runs now : List (Option Run)) (i : ℕ) (slot : Option Run) → AreInside n runs → ((k : ℕ) → get_or now k None ≡ (if nat_lt k i then lose p (get_or runs k None) else get_or runs k None)) → i < length now
