@@ -3,6 +3,7 @@
 ghost use Rattle.std.specs.Prelude.{ℕ, ◌≡◌, ◌≤◌, ◌↔◌, None, Some, Err, IfOk, OnOk, OnErr, All, Contains};
 ghost use Rattle.dri_base.specs.declared.command.Change.{Change};
 ghost use Rattle.dri_base.specs.Ranges.{InRange, WindowInRange, WindowsInRange, window_numbers};
+ghost use Rattle.dri_base.specs.Limits.{last_stamp};
 ghost use Rattle.dri_model.specs.Stacks.{Refusal, origin, refusal, stack_after, touches, window_in, without_owner};
 ghost use Rattle.dri_clips.specs.declared.change.ChangeFault.TheVariants.{NoWindow, OutOfRange, AlreadyMapped, NotMapped};
 ghost use Rattle.dri_clips.specs.Boards.{AreClipsOf, IsOpening, IsRestacked, is_mapped, stamps_of};
@@ -58,7 +59,7 @@ impl Board {
         stack: Stack,
         steps: &mut Steps<L>,
     ) -> Result<Touched, OutOfMemory>
-        requires counter { self.old.counter ≤ 4294967231 }
+        requires counter { self.old.counter ≤ last_stamp }
         requires ranged { All WindowInRange stack }
         requires numbers { SameNumbers self.old.stack stack }
         ensures ok { OnOk result (IsRestacked stack self.old self.new) }
@@ -86,7 +87,7 @@ impl Board {
         change: &Change,
         steps: &mut Steps<L>,
     ) -> Result<Touched, ChangeFault>
-        requires { self.old.counter ≤ 4294967231 }
+        requires { self.old.counter ≤ last_stamp }
         ensures allowed { OnOk result (refusal change.now self.old.stack ≡ None) }
         ensures ok { OnOk result (IsRestacked (stack_after change.now self.old.stack) self.old self.new) }
         ensures touched { IfOk result (IsTouched self.old (stack_after change.now self.old.stack)) }
@@ -109,7 +110,7 @@ impl Board {
         owner: u32,
         steps: &mut Steps<L>,
     ) -> Result<Touched, OutOfMemory>
-        requires { self.old.counter ≤ 4294967231 }
+        requires { self.old.counter ≤ last_stamp }
         ensures ok { OnOk result (IsRestacked (without_owner owner self.old.stack) self.old self.new) }
         ensures touched { IfOk result (IsTouched self.old (without_owner owner self.old.stack)) }
         ensures err { OnErr result (self.new ≡ self.old) }

@@ -1,6 +1,7 @@
 //! New stamps for the windows that a new stack touches.
 
 ghost use Rattle.std.specs.Prelude.{◌≤◌, IfOk};
+ghost use Rattle.dri_base.specs.Limits.{last_stamp};
 ghost use Rattle.dri_model.specs.Stacks.{is_touched};
 ghost use Rattle.dri_clips.specs.Layouts.{AreLayouts, IsRestamped};
 
@@ -25,7 +26,7 @@ pub fn restamp(
     counter: u32,
 ) -> Result<Restamped, OutOfMemory>
     requires layouts { AreLayouts old.now new.now }
-    requires counter { counter ≤ 4294967231 }
+    requires counter { counter ≤ last_stamp }
     ensures { IfOk result (IsRestamped (is_touched old.now.width old.now.height old.now.stack new.now.stack) 65 counter stamps.now) }
 {
     let mut out = Restamped {

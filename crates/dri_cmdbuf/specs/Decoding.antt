@@ -4,6 +4,7 @@ use Rattle.std.specs.List.{range_with_len}
 use Rattle.dri_base.specs.declared.colour.Rgba.{Rgba}
 use Rattle.dri_base.specs.declared.shape.Triangle.{Triangle}
 use Rattle.dri_base.specs.declared.shape.Vertex.{Vertex}
+use Rattle.dri_base.specs.Limits.{word_end}
 
 -- a word that can stand at that place of a triangle's thirteen: the header, a depth of sixteen bits, or any word
 abbrev pub is_good : ℕ → ℕ → Bool
@@ -40,4 +41,4 @@ triangles_of words = map (triangle_of words) (range_with_len 0 (length words / 1
 pub record IsWhole (words : List ℕ) : Type 0 where
   pub thirteens : length words % 13 ≡ 0
   pub good : (i : ℕ) → i < length words → is_good (i % 13) (slice_index words i) ≡ true
-  pub small : (i : ℕ) → i < length words → slice_index words i < 4294967296
+  pub small : (i : ℕ) → i < length words → slice_index words i < word_end

@@ -3,6 +3,7 @@
 
 ghost use Rattle.std.specs.Prelude.{◌≡◌, ◌<◌, ◌≤◌, ℕ, length, get_or, Some, None, IfOk, OnOk, Err, All, ◌↔◌, slice_get};
 ghost use Rattle.dri_base.specs.Ranges.{IsRegionSize};
+ghost use Rattle.dri_base.specs.Limits.{word_end};
 ghost use Rattle.dri_texheap.specs.RegionStates.{heap_of};
 ghost use Rattle.dri_sarea.specs.Areas.{Area, all_entries, no_drawable, no_region};
 ghost use Rattle.dri_texheap.specs.Ring.{entry};
@@ -52,7 +53,7 @@ impl Model for Sarea {
 // The number itself. What is read from a list is known to be of 32 bits only once it is passed.
 fn word_of(number: u32) -> u32
     ensures same { result ≡ number }
-    ensures small { result < 4294967296 }
+    ensures small { result < word_end }
 {
     number
 }
@@ -60,7 +61,7 @@ fn word_of(number: u32) -> u32
 // A drawable, whose stamp is a number of 32 bits.
 fn shown(drawable: &Drawable) -> Drawable
     ensures same { result ≡ drawable.now }
-    ensures small { result.stamp < 4294967296 }
+    ensures small { result.stamp < word_end }
 {
     Drawable {
         stamp: word_of(drawable.stamp),
@@ -71,7 +72,7 @@ fn shown(drawable: &Drawable) -> Drawable
 // The list of drawables, whose stamps are numbers of 32 bits.
 fn copied(alloc: Global, drawables: &[Drawable]) -> Result<Vec<Drawable>, OutOfMemory>
     ensures same { IfOk result (λ list. list.items ≡ drawables.now) }
-    ensures small { IfOk result (λ list. (i : ℕ) → (get_or list.items i no_drawable).stamp < 4294967296) }
+    ensures small { IfOk result (λ list. (i : ℕ) → (get_or list.items i no_drawable).stamp < word_end) }
 {
     let mut list = Vec::with_capacity(alloc, drawables.len())?;
     for drawable in drawables {
@@ -84,7 +85,7 @@ fn copied(alloc: Global, drawables: &[Drawable]) -> Result<Vec<Drawable>, OutOfM
 fn entry(regions: &Regions, i: u32) -> TexRegion
     requires { i ≤ regions.now.count }
     ensures entry { result ≡ entry regions.now.count (heap_of regions.now) i }
-    ensures small { result.age < 4294967296 }
+    ensures small { result.age < word_end }
 {
     let TexRegion {
         next,
@@ -103,7 +104,7 @@ fn entry(regions: &Regions, i: u32) -> TexRegion
 // The 65 entries of these regions.
 fn all_entries(alloc: Global, regions: &Regions) -> Result<Vec<TexRegion>, OutOfMemory>
     ensures entries { IfOk result (λ list. list.items ≡ all_entries regions.now.count (heap_of regions.now)) }
-    ensures small { IfOk result (λ list. (i : ℕ) → (get_or list.items i no_region).age < 4294967296) }
+    ensures small { IfOk result (λ list. (i : ℕ) → (get_or list.items i no_region).age < word_end) }
 {
     let mut list = vec![in alloc; NO_REGION; ENTRY_COUNT]?;
     for i in 0..regions.count() + 1 {

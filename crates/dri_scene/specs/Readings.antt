@@ -17,6 +17,7 @@ use Rattle.dri_base.specs.declared.texture.Texture.{Texture}
 use Rattle.dri_base.specs.declared.texture.TexShape.{TexShape}
 use Rattle.dri_base.specs.Ranges.{heap_bytes, owner_of}
 use Rattle.dri_base.specs.Scenes.{kills_in}
+use Rattle.dri_base.specs.Limits.{most_changes, most_commands, most_items}
 use Rattle.dri_words.specs.declared.reason.Reason.{Reason}
 use Rattle.dri_words.specs.declared.reason.Reason.TheVariants as reasons
 use Rattle.dri_words.specs.Parts.{parts_at, is_nil}
@@ -129,7 +130,7 @@ names_textures textures command = true
 unfoldable pub with_command : Reading → Command → Result Reading Reason
 with_command r command =
     if not (names_textures r.script.textures command) then Err reasons.Unknown
-    else if nat_le 100000 r.commands then Err reasons.Limit
+    else if nat_le most_commands r.commands then Err reasons.Limit
     else Ok (record r { script = record r.script { commands = r.script.commands ++ command ∷ [] }; commands = r.commands + 1 })
 
 -- the window that a change names
@@ -145,7 +146,7 @@ window_changed (Change_is.Lower w) = w
 unfoldable pub with_change : Reading → Change → Result Reading Reason
 with_change r change =
     if not (has_window (window_changed change) r.scene.windows) then Err reasons.Unknown
-    else if nat_le 4096 (length r.scene.changes) then Err reasons.Limit
+    else if nat_le most_changes (length r.scene.changes) then Err reasons.Limit
     else Ok (record r { scene = record r.scene { changes = r.scene.changes ++ change ∷ [] } })
 
 -- the client that an item names is there; the server always is
@@ -163,7 +164,7 @@ unfoldable pub with_item : Reading → Item → Result Reading Reason
 with_item r item =
     if not (names_client r.scene.clients item) then Err reasons.Unknown
     else if kills_again r.scene.turns item then Err reasons.Twice
-    else if nat_le 1000000 (length r.scene.turns) then Err reasons.Limit
+    else if nat_le most_items (length r.scene.turns) then Err reasons.Limit
     else Ok (record r { scene = record r.scene { turns = r.scene.turns ++ item ∷ [] } })
 
 -- a block is whole: a client's block joins the scene

@@ -3,6 +3,7 @@ use Rattle.std.specs.Prelude.{◌≡◌, ◌≢◌, ◌<◌, ◌≤◌, ◌+◌,
 use Rattle.dri_base.specs.declared.command.Command.TheVariants as Command_is
 use Rattle.dri_base.specs.declared.scene.Scene.{Scene}
 use Rattle.dri_base.specs.Ranges.{IsSide, CardInRange, WindowsInRange, ClientInRange, ClientsInRange, ChangesInRange, TurnsInRange, heap_bytes, client_numbers, command_count, window_numbers, texture_numbers}
+use Rattle.dri_base.specs.Limits.{most_commands}
 use Rattle.dri_scene.specs.declared.place.Place.{Place}
 use Rattle.dri_scene.specs.declared.place.Place.TheVariants as places
 use Rattle.dri_scene.specs.declared.reading.Reading.{Reading}
@@ -51,7 +52,7 @@ pub record IsSoFar (r : Reading) : Type 0 where
   pub clients : ClientsInRange r.scene.windows (heap_bytes r.scene) r.scene.clients
   pub most : All (λ n. n ≤ r.last_client) (client_numbers r.scene.clients)
   pub counted : command_count r.scene.clients + length r.script.commands ≡ r.commands
-  pub few : r.commands ≤ 100000
+  pub few : r.commands ≤ most_commands
   pub changes : ChangesInRange (window_numbers r.scene.windows) r.scene.changes
   pub turns : TurnsInRange (client_numbers r.scene.clients) r.scene.turns
 

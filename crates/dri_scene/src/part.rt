@@ -2,6 +2,7 @@
 
 ghost use Rattle.std.specs.Prelude.{◌≡◌, ◌≤◌, ◌+◌, length, IfOk};
 ghost use Rattle.dri_base.specs.Ranges.{InRange};
+ghost use Rattle.dri_base.specs.Limits.{word_end};
 ghost use Rattle.dri_words.specs.Parts.{parts_at};
 ghost use Rattle.dri_scene.specs.Readings.{Gives, after_done, begun, fault_at, part_of, scene_of, text_size};
 
@@ -79,7 +80,7 @@ fn up_to_done<'a>(alloc: Global, bytes: &'a [u8]) -> Result<Begun<'a>, SceneFaul
 /// The scene, where nothing but lines that are passed over follows its `done` line. The first line that follows has the
 /// number `first`.
 fn after_done(scene: Scene, mut rest: Parts<'_>, first: u32) -> Result<Scene, SceneFault>
-    requires { first + text_size rest ≤ 4294967296 }
+    requires { first + text_size rest ≤ word_end }
     ensures value { Gives result (after_done first scene rest.entry) }
     ensures same { IfOk result (λ s. s ≡ scene) }
 {

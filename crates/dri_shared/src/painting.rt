@@ -2,6 +2,7 @@
 
 ghost use Rattle.std.specs.Prelude.{◌≡◌, ◌≢◌, ◌≤◌, ℕ, All, OnOk, OnErr};
 ghost use Rattle.dri_base.specs.declared.colour.Rgb.{Rgb};
+ghost use Rattle.dri_base.specs.Limits.{last_stamp};
 ghost use Rattle.dri_card.specs.Contents.{KeepSides, Shows};
 ghost use Rattle.dri_card.specs.Drawing.{OnlyShown};
 ghost use Rattle.dri_clips.specs.Boards.{IsRestacked};
@@ -52,7 +53,7 @@ pub(crate) fn change_windows<L: Ledger>(
     requires name { blank.name ≡ L.name }
     requires parts { blank.parts ≡ L.parts }
     requires one { L.parts ≡ 1 }
-    requires counter { board.old.counter ≤ 4294967231 }
+    requires counter { board.old.counter ≤ last_stamp }
     requires screen { IsScreen card.old }
     requires width { card.old.front.width ≡ board.old.width }
     requires height { card.old.front.height ≡ board.old.height }
@@ -80,7 +81,7 @@ pub(crate) fn unmap_windows<L: Ledger>(
     requires name { blank.name ≡ L.name }
     requires parts { blank.parts ≡ L.parts }
     requires one { L.parts ≡ 1 }
-    requires counter { board.old.counter ≤ 4294967231 }
+    requires counter { board.old.counter ≤ last_stamp }
     requires screen { IsScreen card.old }
     requires width { card.old.front.width ≡ board.old.width }
     requires height { card.old.front.height ≡ board.old.height }

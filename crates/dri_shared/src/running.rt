@@ -2,6 +2,7 @@
 //! last in the journal, and moves the client's place on.
 
 ghost use Rattle.std.specs.Prelude.{◌≡◌, ◌≤◌, true, IfSome};
+ghost use Rattle.dri_base.specs.Limits.{last_age};
 ghost use Rattle.dri_core.specs.Privates.{is_triangle, used_run};
 ghost use Rattle.dri_core.specs.Solo.{is_clear, is_swap};
 ghost use Rattle.dri_shared.specs.Commands.{is_setting, is_yield, next_command, next_run};
@@ -23,7 +24,7 @@ use std::sync::ledger::Blank;
 fn touch(regions: &mut Regions, run: Option<Run>)
     requires inside { IfSome run (IsInside regions.old.count) }
     requires in_use { IfSome run (IsInUse (heap_of regions.old)) }
-    requires age { (heap_of regions.old).global ≤ 4294967000 }
+    requires age { (heap_of regions.old).global ≤ last_age }
     ensures heap { heap_of regions.new ≡ touched_by_use run (heap_of regions.old) }
     ensures count { regions.new.count ≡ regions.old.count }
 {

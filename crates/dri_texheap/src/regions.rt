@@ -3,6 +3,7 @@
 //! when it is read.
 
 ghost use Rattle.std.specs.Prelude.{◌≡◌, ◌<◌, ◌≤◌, ℕ, false, true, IsErr, IfOk, IfErr, ◌↔◌};
+ghost use Rattle.dri_base.specs.Limits.{last_age};
 ghost use Rattle.dri_model.specs.Heaps.{any_in, is_newer, is_place_for, allocated, touched};
 ghost use Rattle.dri_texheap.specs.RegionStates.{heap_of, IsHeap, IsInside, IsInUse};
 ghost use Rattle.dri_texheap.specs.Ring.{IsOneList, entry, foremost, goes, follows};
@@ -124,7 +125,7 @@ impl Regions {
     pub fn touch(&mut self, run: Run)
         requires inside { IsInside self.old.count run }
         requires in_use { IsInUse (heap_of self.old) run }
-        requires age { (heap_of self.old).global ≤ 4294967000 }
+        requires age { (heap_of self.old).global ≤ last_age }
         ensures heap { heap_of self.new ≡ touched run (heap_of self.old) }
         ensures count { self.new.count ≡ self.old.count }
     {
@@ -142,7 +143,7 @@ impl Regions {
     /// then nothing changes. The global age is at most 4,294,967,000 before.
     pub fn allocate(&mut self, k: u32) -> Result<Run, TooLarge>
         requires some { 1 ≤ k }
-        requires age { (heap_of self.old).global ≤ 4294967000 }
+        requires age { (heap_of self.old).global ≤ last_age }
         ensures too_large { IsErr result ↔ (self.old.count < k) }
         ensures size { IfOk result (λ run. run.count ≡ k) }
         ensures place { IfOk result (λ run. is_place_for self.old.count (heap_of self.old) k run.first ≡ true) }

@@ -1,5 +1,6 @@
 use Rattle.std.proofs.Common.{◌≡◌, ◌<◌, List, [], ◌∷◌, ◌++◌, length, take, arith, sym, ◌∙◌, ap}
 use Rattle.std.proofs.lemmas.List.{take_more}
+use Rattle.dri_base.specs.Limits.{word_end}
 use Rattle.dri_sarea.specs.declared.drawable.Drawable.{Drawable}
 use Rattle.dri_sarea.specs.Areas.{no_drawable}
 use Rattle.dri_sarea.proofs.Reading.{put_each, length_take}
@@ -12,5 +13,5 @@ loop-drawable-preserved c =
     let size : length items ≡ i = ap (λ (xs : List Drawable). length xs) c.loop-drawable.invariant.same ∙ length_take i ds (omega (arith, c.loop-drawable-test.true)) in
     record {
       same = put ∙ ap (λ (xs : List Drawable). xs ++ d ∷ []) c.loop-drawable.invariant.same ∙ ap (λ (x : Drawable). take i ds ++ x ∷ []) c.shown.ensures.same ∙ sym (take_more ds i no_drawable c.loop-drawable-test.true);
-      small = put_each (λ k d. d.stamp < 4294967296) items more d no_drawable i put size c.loop-drawable.invariant.small c.shown.ensures.small;
+      small = put_each (λ k d. d.stamp < word_end) items more d no_drawable i put size c.loop-drawable.invariant.small c.shown.ensures.small;
     }
