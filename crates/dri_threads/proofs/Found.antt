@@ -9,8 +9,6 @@ use Rattle.dri_base.specs.declared.scene.Scene.{Scene}
 use Rattle.dri_hwlock.specs.Entries.{Adds, StartsWith, mine}
 use Rattle.dri_hwlock.specs.Tokens.{Token, IsSuccessor}
 use Rattle.dri_hwlock.proofs.Lists.{mine-append}
-use Rattle.dri_core.specs.Phases as Phase_is
-use Rattle.dri_core.specs.Phases.{Phase, is_done}
 use Rattle.dri_core.specs.Runs.{after, client_of, context_of}
 use Rattle.dri_core.specs.Worlds.{World, opening}
 use Rattle.dri_core.proofs.Laws.{foreign_entries, after_entries-append}
@@ -18,8 +16,7 @@ use Rattle.dri_core.proofs.Stays.{made_stays}
 use Rattle.dri_shared.specs.States.{SharedState}
 use Rattle.dri_driver.specs.Clients.{ClientState}
 use Rattle.dri_threads.specs.Sessions.{IsSeated, Grows, Works, is_at_rest}
-use Rattle.dri_threads.specs.Actors.{Stands, IsFound, want_in}
-use Rattle.dri_threads.specs.declared.actor.Want.TheVariants.{Act, Learn, Nothing}
+use Rattle.dri_threads.specs.Actors.{Stands, IsFound}
 
 some_same : {A : Type 0} (a b : A) → Some a ≡ Some b → a ≡ b
 some_same a b e = cc
@@ -83,41 +80,6 @@ stands_again t u v w k l c found next seen works living rests = record {
   living = works.same.dying ∙ living;
   rests = rests;
 }
-
--- who rests and wants nothing is done
-pub done_at_rest : (p : Phase) → is_at_rest p ≡ true → want_in p ≡ Nothing → is_done p ≡ true
-done_at_rest Phase_is.Out r w = cc
-done_at_rest Phase_is.Asking r w = cc
-done_at_rest Phase_is.Ended r w = refl
-done_at_rest Phase_is.Dead r w = refl
-done_at_rest Phase_is.Old r w = cc
-done_at_rest Phase_is.In r w = cc
-done_at_rest Phase_is.Over r w = cc
-done_at_rest Phase_is.Ask r w = cc
-
-pub acts_out : (p : Phase) → want_in p ≡ Act → p ≡ Phase_is.Out
-acts_out Phase_is.Out w = refl
-acts_out Phase_is.Asking w = cc
-acts_out Phase_is.Ended w = cc
-acts_out Phase_is.Dead w = cc
-acts_out Phase_is.Old w = cc
-acts_out Phase_is.In w = cc
-acts_out Phase_is.Over w = cc
-acts_out Phase_is.Ask w = cc
-
-pub learns_asking : (p : Phase) → want_in p ≡ Learn → p ≡ Phase_is.Asking
-learns_asking Phase_is.Out w = cc
-learns_asking Phase_is.Asking w = refl
-learns_asking Phase_is.Ended w = cc
-learns_asking Phase_is.Dead w = cc
-learns_asking Phase_is.Old w = cc
-learns_asking Phase_is.In w = cc
-learns_asking Phase_is.Over w = cc
-learns_asking Phase_is.Ask w = cc
-
--- a client whose part is done is done after what its pass has seen
-pub done_seen : (t : Token Scene Entry) (k : ClientState) (c : ℕ) → Stands t k c → want_in k.phase ≡ Nothing → is_done ((after k.scene t.seen).client c).phase ≡ true
-done_seen t k c st want = ap (λ p. is_done p) (sym (ap (λ p. p.phase) st.seated.fits.part ∙ ap (λ n. ((after k.scene t.seen).client n).phase) st.seated.numbered)) ∙ done_at_rest k.phase st.rests want
 
 -- what a hold adds, at its token
 pub adds_found : (x : ℕ) (t : Token Scene Entry) (u v w : SharedState) → IsFound x t u → v ≡ u → Grows x v w → Adds context_of t.context t.seen w.journal

@@ -12,10 +12,8 @@ use Rattle.dri_core.specs.Runs.{after, client_of, context_of}
 use Rattle.dri_core.specs.Worlds.{World}
 use Rattle.dri_hwlock.specs.Entries.{AllOf}
 use Rattle.dri_shared.specs.States.{SharedState, Added, IsSameRun, world_of}
-use Rattle.dri_driver.specs.Acts.{IsActing}
 use Rattle.dri_driver.specs.Clients.{ClientState}
 use Rattle.dri_driver.specs.Fits.{IsSameClient}
-use Rattle.dri_driver.specs.Needs.{entries_left}
 use Rattle.dri_driver.proofs.Fitting.{world_added}
 use Rattle.dri_threads.specs.Sessions.{IsSeated, Makes, Grows, Works, is_at_rest}
 
@@ -40,10 +38,6 @@ same_client k = record { scene = refl; number = refl; dying = refl }
 
 pub same_again : (j k l : ClientState) → IsSameClient j k → IsSameClient k l → IsSameClient j l
 same_again j k l a b = record { scene = b.scene ∙ a.scene; number = b.number ∙ a.number; dying = b.dying ∙ a.dying }
-
--- a client's phase stands in the world
-pub phase_there : (v : SharedState) (k : ClientState) (c : ℕ) → IsSeated v k c → ((world_of v).client c).phase ≡ k.phase
-phase_there v k c seated = sym (ap (λ p. p.phase) seated.fits.part ∙ ap (λ n. ((world_of v).client n).phase) seated.numbered)
 
 pub seated_same : (v w : SharedState) (k : ClientState) (c : ℕ) → IsSameRun v w → IsSeated v k c → IsSeated w k c
 seated_same v w k c same seated = record {
@@ -71,11 +65,6 @@ works_made c v w k l e seated made of = record {
 
 pub works_more : (c : ℕ) (u v w : SharedState) (j k l : ClientState) → Works c u v j k → Works c v w k l → Works c u w j l
 works_more c u v w j k l a b = record { grows = grows_more (c + 1) u v w a.grows b.grows; seated = b.seated; same = same_again j k l a.same b.same }
-
--- who may act can add an entry
-pub acting_left : (k : ClientState) → IsActing k → 1 ≤ entries_left k
-acting_left k (inl e) = rw e (omega arith)
-acting_left k (inr e) = rw e (omega arith)
 
 -- who left is at rest
 pub left_rests : (p : Phase) (last : Bool) → (p ≡ Phase_is.Over) ⊎ (p ≡ Phase_is.Ask) → is_at_rest (left_from p last) ≡ true

@@ -6,7 +6,6 @@ ghost use Rattle.dri_base.specs.declared.journal.Entry.TheVariants as Entry_is;
 ghost use Rattle.dri_core.specs.Effects.{after_leave};
 ghost use Rattle.dri_core.specs.Phases as Phase_is;
 ghost use Rattle.dri_core.specs.Runs.{client_of};
-ghost use Rattle.dri_shared.specs.Copies.{IsToldOf};
 ghost use Rattle.dri_shared.specs.States.{Added, MayAdd, world_of};
 ghost use Rattle.dri_driver.specs.Acts.{IfRan, IsActing, IsAtDeath, IsAtEnd, MustGo, UnlessRan};
 ghost use Rattle.dri_driver.specs.Checks.{phase_checked};
@@ -17,7 +16,7 @@ ghost use Rattle.dri_threads.specs.Sessions.{IsSeated, Makes};
 
 use dri_base::OutOfMemory;
 use dri_driver::{Acted, Checked, Client};
-use dri_shared::{Shared, Told};
+use dri_shared::Shared;
 use std::alloc::Global;
 
 /// The client takes the lock by the light exchange.
@@ -102,33 +101,6 @@ pub(crate) fn leave(shared: &mut Shared, client: &mut Client, number: u32)
     drop(side);
 }
 
-/// The server tells what a client's window shows.
-fn tell(alloc: Global, shared: &mut Shared, number: u32) -> Result<Told, OutOfMemory>
-    requires room { 1 ≤ shared.old.spare }
-    requires legal { MayAdd shared.old (Entry_is.Info number) }
-    ensures told { IfOk result (IsToldOf shared.old.scene (world_of shared.old) number) }
-    ensures made { OnOk result (Added shared.old shared.new (Entry_is.Info number)) }
-    ensures err { OnErr result (shared.new ≡ shared.old) }
-{
-    let mut side = shared.server_side();
-    let told = side.info(alloc, number)?;
-    drop(side);
-    Ok(told)
-}
-
-/// The windows of a client that dies are unmapped.
-fn unmap(alloc: Global, shared: &mut Shared, number: u32) -> Result<(), OutOfMemory>
-    requires room { 1 ≤ shared.old.spare }
-    requires legal { MayAdd shared.old (Entry_is.Gone number) }
-    ensures made { OnOk result (Added shared.old shared.new (Entry_is.Gone number)) }
-    ensures err { OnErr result (shared.new ≡ shared.old) }
-{
-    let mut side = shared.server_side();
-    side.gone(alloc, number)?;
-    drop(side);
-    Ok(())
-}
-
 /// The client, which asks, is told what its window shows.
 pub(crate) fn inform(
     alloc: Global,
@@ -143,7 +115,7 @@ pub(crate) fn inform(
     ensures phase { OnOk result (client.new.phase ≡ Phase_is.Out) }
     ensures err { OnErr result ((shared.new ≡ shared.old) × (client.new ≡ client.old)) }
 {
-    let told = tell(alloc, shared, number)?;
+    let told = shared.tell(alloc, number)?;
     client.told(told);
     Ok(())
 }
@@ -163,7 +135,7 @@ pub(crate) fn bury(
     ensures phase { OnOk result (client.new.phase ≡ Phase_is.Dead) }
     ensures err { OnErr result ((shared.new ≡ shared.old) × (client.new ≡ client.old)) }
 {
-    unmap(alloc, shared, number)?;
+    shared.bury(alloc, number)?;
     client.gone();
     Ok(())
 }
