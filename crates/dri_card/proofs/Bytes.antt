@@ -3,7 +3,7 @@ use Rattle.std.proofs.Common.{◌≡◌, ℕ, ◌+◌, ◌<◌, ◌≤◌, List,
 use Rattle.std.proofs.lemmas.Bool.Decides.{nat_tests}
 use Rattle.std.proofs.lemmas.List.{get_or_past, get_or-replicate, length-replicate}
 use Rattle.dri_model.specs.Heaps.{uploaded}
-use Rattle.dri_card.specs.Pairs.{byte_in}
+use Rattle.dri_walk.specs.Samplings.{byte_in}
 
 -- a memory in which bytes are written at each place
 pub bytes_written : (old new : List ℕ) (start : ℕ) (bytes : List ℕ) → length new ≡ length old → start + length bytes ≤ length old

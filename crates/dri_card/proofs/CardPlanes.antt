@@ -1,5 +1,5 @@
 -- What the card's calls make of its planes.
-use Rattle.std.proofs.Common.{◌≡◌, ℕ, ◌+◌, ◌≤◌, List, [], ◌∷◌, ◌++◌, take, length, fold, add-one, Bool, true, false, ◌&&◌, if◌then◌else◌, Option, Some, ℤ, pos, ◌-ℤ◌, refl, sym, ap, ◌∙◌, subst}
+use Rattle.std.proofs.Common.{◌≡◌, ℕ, ◌+◌, ◌≤◌, List, [], ◌∷◌, ◌++◌, take, length, fold, add-one, Bool, true, false, if◌then◌else◌, Some, pos, ◌-ℤ◌, refl, sym, ap, ◌∙◌, subst}
 use Rattle.std.proofs.lemmas.List.{take_all}
 use Rattle.std.proofs.lemmas.List.Sums.{fold-append}
 use Rattle.std.proofs.lemmas.Option.{get_or_from_slice_get, slice_get_within}
@@ -7,61 +7,18 @@ use Rattle.std.proofs.Math.Seq.{take-suc}
 use Rattle.std.specs.Prelude.{slice_get}
 use Rattle.dri_base.specs.declared.colour.Rgb.{Rgb}
 use Rattle.dri_base.specs.declared.colour.Pixel.{Pixel}
-use Rattle.dri_base.specs.declared.shape.ClipRect.{ClipRect}
 use Rattle.dri_base.specs.declared.shape.Point.{Point}
 use Rattle.dri_base.specs.declared.shape.Triangle.{Triangle}
-use Rattle.dri_base.specs.declared.state.Registers.{Registers}
-use Rattle.dri_base.specs.Coverage.{covers, quantity}
-use Rattle.dri_base.specs.Fragments.{fragment, in_scissor, passes, shaded, with_texel, written}
 use Rattle.dri_base.specs.Planes.{plane, in_rect}
-use Rattle.dri_base.specs.Texels.{Image}
-use Rattle.dri_model.specs.Words.{card_image, rules_in}
 use Rattle.dri_plane.specs.Grids.{Grid, Becomes}
-use Rattle.dri_card.specs.Contents.{Contents, Holds, memory_of}
+use Rattle.dri_card.specs.Contents.{Contents, Holds}
 use Rattle.dri_card.specs.Drawing.{OnlyDrawn, after_triangle, after_triangles, drawn}
-use Rattle.dri_card.specs.Pairs.{IsNarrowed, drawn_at, unscissored}
-use Rattle.dri_card.proofs.PairPlanes.{pairs_same}
+use Rattle.dri_card.specs.Alike.{pairs_same}
 
 -- one plane, where it is known what it shows
 pub shows_change : (old new : Grid Rgb) (change : (ℕ → ℕ → Rgb) → ℕ → ℕ → Rgb) (g : ℕ → ℕ → Rgb) → new.width ≡ old.width → new.height ≡ old.height → Becomes old new change
     → old.pixels ≡ plane old.width old.height g → new.pixels ≡ plane new.width new.height (change g)
 shows_change old new change g wide high becomes holds = rw (wide, high) (becomes g holds)
-
--- the pixel rule by the answer of its scissor
-abbrev by_scissor : Registers → Option Image → Triangle → ℤ → ℤ → Pixel → Bool → Pixel
-by_scissor r image t x y under b =
-    if covers t x y && (b && passes r.depth_func (quantity t (λ v. v.z) x y) under.depth)
-    then written (rules_in r) (with_texel r.tex_mode image r.wrap t x y (shaded r.shade t x y)) (quantity t (λ v. v.z) x y) under
-    else under
-
--- in the clip and in the scissor, or not
-pub scissored : (r : Registers) (image : Option Image) (t : Triangle) (x y : ℤ) (under : Pixel) (inside : Bool)
-    → (if inside && in_scissor r.scissor x y then fragment (unscissored r) image t x y under else under) ≡ (if inside then fragment (rules_in r) image t x y under else under)
-scissored r image t x y under false = refl
-scissored r image t x y under true = by (in_scissor r.scissor x y) (covers t x y) refl where
-  by : (b c : Bool) → covers t x y ≡ c → (if b then by_scissor r image t x y under true else under) ≡ by_scissor r image t x y under b
-  by true c e = refl
-  by false true e = rw e refl
-  by false false e = rw e refl
-
--- a triangle drawn in a clip that is cut to the scissor
-pub triangle_drawn : (v : Contents) (origin : Point) (t : Triangle) (rect : ClipRect) (drawing : ℤ → ℤ → Pixel → Pixel) (f : ℕ → ℕ → Pixel)
-    → drawing ≡ fragment (unscissored v.registers) (card_image (memory_of v) v.registers.bound) t → IsNarrowed v.clip v.registers.scissor origin rect
-    → (x y : ℕ) → drawn_at (in_rect rect) origin drawing f x y ≡ after_triangle v origin t f x y
-triangle_drawn v origin t rect drawing f is narrowed x y =
-    ap (λ b. if b then drawing (pos x -ℤ origin.x) (pos y -ℤ origin.y) (f x y) else f x y) (narrowed x y)
-    ∙ ap (λ (d : ℤ → ℤ → Pixel → Pixel). if in_rect v.clip x y && in_scissor v.registers.scissor (pos x -ℤ origin.x) (pos y -ℤ origin.y) then d (pos x -ℤ origin.x) (pos y -ℤ origin.y) (f x y) else f x y) is
-    ∙ scissored v.registers (card_image (memory_of v) v.registers.bound) t (pos x -ℤ origin.x) (pos y -ℤ origin.y) (f x y) (in_rect v.clip x y)
-
--- a triangle that covers nothing
-pub triangle_missed : (v : Contents) (origin : Point) (t : Triangle) (f : ℕ → ℕ → Pixel) → ((x y : ℤ) → covers t x y ≡ false) → (x y : ℕ) → f x y ≡ after_triangle v origin t f x y
-triangle_missed v origin t f none x y = by (in_rect v.clip x y) where
-  image : Option Image
-  image = card_image (memory_of v) v.registers.bound
-
-  by : (b : Bool) → f x y ≡ (if b then drawn v t (pos x -ℤ origin.x) (pos y -ℤ origin.y) (f x y) else f x y)
-  by false = refl
-  by true = rw (none (pos x -ℤ origin.x) (pos y -ℤ origin.y)) refl
 
 -- the card in whose planes alone something is drawn draws alike
 drawn_alike : (old mid : Contents) (origin : Point) (t : Triangle) (f : ℕ → ℕ → Pixel) (x y : ℕ) → OnlyDrawn old mid → after_triangle mid origin t f x y ≡ after_triangle old origin t f x y

@@ -1,8 +1,6 @@
-pub mod CutRects
 pub mod PairPlanes
-pub mod DrawnPlaces
+pub mod Painted
 pub mod Stacked
 pub mod Bytes
-pub mod PixelRules
 pub mod CardPlanes
 pub mod Readings

@@ -47,10 +47,3 @@ pair_read back depth f x y colour z column row holds is deep =
     let c = read back (λ a b. (f a b).colour) x y colour column.0 row.0 holds.colours is in
     let d = read depth (λ a b. (f a b).depth) x y z column.1 row.1 holds.depths deep in
     λ i. record { colour = c i; depth = d i }
-
--- pairs that are equal at each place
-pub pairs_same : (back : Grid Rgb) (depth : Grid ℕ) (f g : ℕ → ℕ → Pixel) → ((x y : ℕ) → f x y ≡ g x y) → HoldPairs back depth f → HoldPairs back depth g
-pairs_same back depth f g same holds = record {
-  colours = holds.colours ∙ plane_same back.width back.height _ _ (λ x y lx ly. ap (λ (p : Pixel). p.colour) (same x y));
-  depths = holds.depths ∙ plane_same depth.width depth.height _ _ (λ x y lx ly. ap (λ (p : Pixel). p.depth) (same x y));
-}

@@ -1,7 +1,6 @@
 pub mod Contents
+pub mod Alike
 pub mod Drawing
 pub mod Loading
 pub mod Invariants
-pub mod Samplings
-pub mod Pairs
 pub mod Openings

@@ -1,25 +1,15 @@
 -- Registers and texture memory that are loaded, and what is refused.
-use Rattle.std.specs.Prelude.{ℕ, ◌≡◌, ◌≤◌, ◌<◌, ◌+◌, ◌*◌, List, length, Option, Some, None}
+use Rattle.std.specs.Prelude.{ℕ, ◌≡◌, ◌<◌, ◌+◌, List, length, Option, Some, None}
 use Rattle.dri_base.specs.declared.state.Registers.{Registers}
 use Rattle.dri_base.specs.declared.texture.BoundTexture.{BoundTexture}
-use Rattle.dri_base.specs.declared.texture.TexShape.{TexShape}
-use Rattle.dri_base.specs.Scenes.{texel_bytes}
 use Rattle.dri_model.specs.WordFaults.{IsBadWord}
 use Rattle.dri_model.specs.Words.{Spelled, loaded}
 use Rattle.dri_card.specs.declared.faults.OutsideCard.{OutsideCard}
 use Rattle.dri_card.specs.declared.faults.OutsideCard.TheVariants.{Base}
 use Rattle.dri_card.specs.declared.faults.LoadFault.{LoadFault}
 use Rattle.dri_card.specs.declared.faults.LoadFault.TheVariants.{BadWord, Outside}
+pub use Rattle.dri_walk.specs.Samplings.{IsImageWithin, image_bytes}
 use Rattle.dri_card.specs.Contents.{Contents}
-
--- the bytes of an image
-abbrev pub image_bytes : TexShape → ℕ
-image_bytes shape = texel_bytes shape.format * (shape.width * shape.height)
-
--- the bound image, where there is one, lies within so many bytes of memory
-abbrev pub IsImageWithin : ℕ → Option BoundTexture → Type 0
-IsImageWithin bytes None = Unit {0}
-IsImageWithin bytes (Some b) = b.base + image_bytes b.shape ≤ bytes
 
 -- the bound image passes so many bytes of memory; the refusal names its first byte and how many it has
 abbrev pub PassesMemory : ℕ → Option BoundTexture → OutsideCard → Type 0

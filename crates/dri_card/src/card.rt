@@ -16,8 +16,6 @@ ghost use Rattle.dri_card.specs.Drawing.{IsDispatchFault, OnlyDrawn, OnlyShown, 
 ghost use Rattle.dri_card.specs.Loading.{CanLoad, IsLoadFault, registers_after};
 ghost use Rattle.dri_card.specs.declared.faults.OutsideCard.TheVariants.{Base, Clip};
 
-use crate::clipping::narrowed;
-use crate::drawing::Drawing;
 use crate::faults::{DispatchFault, LoadFault, OutsideCard};
 use crate::memory::{expect_within, write, zeros};
 use crate::opening::opening_front;
@@ -26,6 +24,7 @@ use dri_base::{ClipRect, OutOfMemory, Point, Registers, Rgb, Scene, State, Steps
 use dri_cmdbuf::{Buffer, Decoded, decode};
 use dri_context::TakeWords;
 use dri_plane::Plane;
+use dri_walk::draw_triangle;
 use std::alloc::Global;
 use std::marker::{Brand, Model};
 use std::sync::ledger::{Blank, Ledger};
@@ -156,10 +155,15 @@ impl Card {
         ensures others { OnlyDrawn self.old self.new }
         ensures sides { KeepSides self.old self.new }
     {
-        if let Some(drawing) = Drawing::new(&self.registers, self.memory.as_slice(), triangle) {
-            let rect = narrowed(&self.clip, &self.registers.scissor, origin);
-            drawing.draw(&mut self.target, origin, &rect, steps);
-        }
+        draw_triangle(
+            &mut self.target,
+            &self.registers,
+            self.memory.as_slice(),
+            &self.clip,
+            origin,
+            triangle,
+            steps,
+        );
     }
 
     /// Writes a colour and a depth into each pixel of a rectangle of back and depth, exactly where it lies on the card.

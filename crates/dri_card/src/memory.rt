@@ -5,7 +5,7 @@ ghost use Rattle.dri_base.specs.Ranges.{IsWithin};
 ghost use Rattle.dri_model.specs.Heaps.{uploaded};
 ghost use Rattle.dri_model.specs.Words.{IsBoundInRange};
 ghost use Rattle.dri_card.specs.Loading.{IsImageWithin, PassesMemory, image_bytes};
-ghost use Rattle.dri_card.specs.Pairs.{byte_in};
+ghost use Rattle.dri_walk.specs.Samplings.{byte_in};
 
 use crate::faults::OutsideCard;
 use dri_base::{BoundTexture, OutOfMemory, TexFormat, TexShape};

@@ -7,9 +7,9 @@ ghost use Rattle.dri_base.specs.Ranges.{InRange, IsSide, WindowInRange};
 ghost use Rattle.dri_plane.specs.Grids.{IsInside};
 ghost use Rattle.dri_card.specs.Openings.{IsCut, ShowsStack};
 
-use crate::clipping::nearest;
 use dri_base::{ClipRect, OutOfMemory, Rgb, Scene, Steps, Window};
 use dri_plane::Plane;
+use dri_walk::nearest;
 use std::alloc::Global;
 use std::sync::ledger::Ledger;
 

@@ -1,16 +1,16 @@
 //! What triangles are drawn on: the back plane and the depth plane, a pair of colour and depth for each place.
 
-ghost use Rattle.std.specs.Prelude.{◌≡◌, ◌<◌, ◌+◌, ◌*◌, ℕ, if◌then◌else◌, IfOk};
+ghost use Rattle.std.specs.Prelude.{◌≡◌, ◌<◌, ◌≤◌, ◌+◌, ◌-◌, ◌*◌, ℕ, if◌then◌else◌, IfOk};
 ghost use Rattle.dri_base.specs.declared.colour.Pixel.{Pixel};
 ghost use Rattle.dri_base.specs.Ranges.{IsSide};
-ghost use Rattle.dri_base.specs.Planes.{in_rect};
 ghost use Rattle.dri_plane.specs.Grids.{area, is_place, IsInside};
 ghost use Rattle.dri_card.specs.Contents.{HoldPairs, blank};
 ghost use Rattle.dri_card.specs.Drawing.{cleared};
-ghost use Rattle.dri_card.specs.Pairs.{PairsBecome};
+ghost use Rattle.dri_walk.specs.Surfaces.{left_by, run_painted};
 
 use dri_base::{ClipRect, OutOfMemory, Pixel, Rgb, Steps};
 use dri_plane::Plane;
+use dri_walk::{Painter, Surface};
 use std::alloc::Global;
 use std::sync::ledger::Ledger;
 
@@ -19,6 +19,8 @@ use std::sync::ledger::Ledger;
 pub struct Target {
     pub back: Plane<Rgb>,
     pub depth: Plane<u16>,
+    ghost same_width: { depth.width ≡ back.width },
+    ghost same_height: { depth.height ≡ back.height },
 }
 
 impl Target {
@@ -27,8 +29,8 @@ impl Target {
         requires wide { IsSide width }
         requires high { IsSide height }
         ensures pairs { IfOk result (λ target. HoldPairs target.back target.depth (λ x y. blank)) }
-        ensures back { IfOk result (λ target. (target.back.width ≡ width) × (target.back.height ≡ height)) }
-        ensures depth { IfOk result (λ target. (target.depth.width ≡ width) × (target.depth.height ≡ height)) }
+        ensures width { IfOk result (λ target. target.back.width ≡ width) }
+        ensures height { IfOk result (λ target. target.back.height ≡ height) }
     {
         let back = Plane::new(alloc, width, height, Rgb { r: 0, g: 0, b: 0 })?;
         let depth = Plane::new(alloc, width, height, 65_535)?;
@@ -36,9 +38,9 @@ impl Target {
     }
 
     /// The pair at a place. It takes two steps.
-    pub fn get<L: Ledger>(&self, x: u32, y: u32, steps: &mut Steps<L>) -> Pixel
-        requires column { (x < self.now.back.width) × (x < self.now.depth.width) }
-        requires row { (y < self.now.back.height) × (y < self.now.depth.height) }
+    fn get<L: Ledger>(&self, x: u32, y: u32, steps: &mut Steps<L>) -> Pixel
+        requires column { x < self.now.back.width }
+        requires row { y < self.now.back.height }
         ensures pair { (f : ℕ → ℕ → Pixel) → HoldPairs self.now.back self.now.depth f → result ≡ f x y }
         ensures cost { steps.new ≡ steps.old + 2 }
     {
@@ -49,16 +51,32 @@ impl Target {
     }
 
     /// Writes the pair at a place. It takes two steps.
-    pub fn put<L: Ledger>(&mut self, x: u32, y: u32, pixel: Pixel, steps: &mut Steps<L>)
-        requires column { (x < self.old.back.width) × (x < self.old.depth.width) }
-        requires row { (y < self.old.back.height) × (y < self.old.depth.height) }
-        ensures pairs { PairsBecome self.old self.new (λ f a b. if is_place x y a b then pixel else f a b) }
-        ensures back { (self.new.back.width ≡ self.old.back.width) × (self.new.back.height ≡ self.old.back.height) }
-        ensures depth { (self.new.depth.width ≡ self.old.depth.width) × (self.new.depth.height ≡ self.old.depth.height) }
+    fn put<L: Ledger>(&mut self, x: u32, y: u32, pixel: Pixel, steps: &mut Steps<L>)
+        requires column { x < self.old.back.width }
+        requires row { y < self.old.back.height }
+        ensures pairs { (f : ℕ → ℕ → Pixel) → HoldPairs self.old.back self.old.depth f → HoldPairs self.new.back self.new.depth (λ a b. if is_place x y a b then pixel else f a b) }
+        ensures width { self.new.back.width ≡ self.old.back.width }
+        ensures height { self.new.back.height ≡ self.old.back.height }
         ensures cost { steps.new ≡ steps.old + 2 }
     {
         self.back.put(x, y, pixel.colour, steps);
         self.depth.put(x, y, pixel.depth, steps);
+    }
+
+    /// Paints the place where the painter stands. It takes at most four steps.
+    fn paint<P: Painter, L: Ledger>(&mut self, x: u16, y: u16, painter: &P, steps: &mut Steps<L>)
+        requires column { x < self.old.back.width }
+        requires row { y < self.old.back.height }
+        requires ready { P.ready painter.now x }
+        ensures pairs { (f : ℕ → ℕ → Pixel) → HoldPairs self.old.back self.old.depth f → HoldPairs self.new.back self.new.depth (λ a b. if is_place x y a b then left_by (λ p. p) (P.paints painter.now a (f a b)) (f a b) else f a b) }
+        ensures width { self.new.back.width ≡ self.old.back.width }
+        ensures height { self.new.back.height ≡ self.old.back.height }
+        ensures cost { steps.new ≤ steps.old + 4 }
+    {
+        let under = self.get(u32::from(x), u32::from(y), steps);
+        if let Some(pixel) = painter.paint(x, under) {
+            self.put(u32::from(x), u32::from(y), pixel, steps);
+        }
     }
 
     /// Writes one pair into each place of a rectangle. It takes two steps a place.
@@ -69,14 +87,42 @@ impl Target {
         depth: u16,
         steps: &mut Steps<L>,
     )
-        requires back { IsInside rect.now self.old.back.width self.old.back.height }
-        requires depth { IsInside rect.now self.old.depth.width self.old.depth.height }
-        ensures pairs { PairsBecome self.old self.new (cleared rect.now colour depth) }
-        ensures back { (self.new.back.width ≡ self.old.back.width) × (self.new.back.height ≡ self.old.back.height) }
-        ensures depth { (self.new.depth.width ≡ self.old.depth.width) × (self.new.depth.height ≡ self.old.depth.height) }
+        requires inside { IsInside rect.now self.old.back.width self.old.back.height }
+        ensures pairs { (f : ℕ → ℕ → Pixel) → HoldPairs self.old.back self.old.depth f → HoldPairs self.new.back self.new.depth (cleared rect.now colour depth f) }
+        ensures width { self.new.back.width ≡ self.old.back.width }
+        ensures height { self.new.back.height ≡ self.old.back.height }
         ensures cost { steps.new ≡ steps.old + 2 * area rect.now }
     {
         self.back.fill(rect, colour, steps);
         self.depth.fill(rect, depth, steps);
+    }
+}
+
+impl Surface for Target {
+    ghost use Rattle.dri_card.specs.Alike.{pairs_same};
+
+    ghost width = { λ target. target.back.width };
+
+    ghost height = { λ target. target.back.height };
+
+    ghost holds = { λ target f. HoldPairs target.back target.depth f };
+
+    ghost kept = { λ pixel. pixel };
+
+    ghost alike = { λ target f g same. pairs_same target.back target.depth f g same };
+
+    fn draw_run<P: Painter, L: Ledger>(
+        &mut self,
+        y: u16,
+        left: u16,
+        right: u16,
+        painter: &mut P,
+        steps: &mut Steps<L>,
+    ) {
+        self.paint(left, y, painter, steps);
+        for x in left + 1..right {
+            painter.step(x - 1);
+            self.paint(x, y, painter, steps);
+        }
     }
 }

@@ -1,7 +1,7 @@
 -- The four sides are cut to the screen.
 use Rattle.std.proofs.Common.{◌+ℤ◌, pos, rules, arith}
 use Rattle.std.proofs.lemmas.Int.{ints}
-use Rattle.dri_card.proofs.CutRects.{Cuts, rises, window_cut}
+use Rattle.dri_walk.proofs.CutRects.{Cuts, rises, window_cut}
 use Rattle.dri_card.proofs.opening.on_screen.Goals as goal
 
 pub returns-clause-inside : goal.returns-clause-inside

@@ -1,0 +1,5 @@
+pub mod CutRects
+pub mod Painting
+pub mod Ready
+pub mod Runs
+pub mod PixelRules

@@ -1,0 +1,21 @@
+-- Rectangles of the screen in a window's coordinates, and what is cut from them.
+use Rattle.std.specs.Prelude.{ℕ, ◌≡◌, pos, ◌-ℤ◌, ◌&&◌, Option}
+use Rattle.dri_base.specs.declared.shape.ClipRect.{ClipRect}
+use Rattle.dri_base.specs.declared.shape.Point.{Point}
+use Rattle.dri_base.specs.declared.shape.Rect.{Rect}
+use Rattle.dri_base.specs.declared.shape.Triangle.{Triangle}
+use Rattle.dri_base.specs.Coverage.{covers}
+use Rattle.dri_base.specs.Fragments.{in_scissor}
+use Rattle.dri_base.specs.Planes.{in_rect}
+
+-- the rectangle's places are those of the clip whose window's pixel lies in the scissor
+abbrev pub IsNarrowed : ClipRect → Option ClipRect → Point → ClipRect → Type 0
+IsNarrowed clip scissor origin rect = (a b : ℕ) → in_rect rect a b ≡ (in_rect clip a b && in_scissor scissor (pos a -ℤ origin.x) (pos b -ℤ origin.y))
+
+-- the rectangle as the window has it, whose upper left corner is the origin
+abbrev pub in_window : ClipRect → Point → Rect
+in_window r origin = record { x1 = pos r.x1 -ℤ origin.x; y1 = pos r.y1 -ℤ origin.y; x2 = pos r.x2 -ℤ origin.x; y2 = pos r.y2 -ℤ origin.y }
+
+-- of the places whose pixel the triangle covers, the two rectangles have the same
+abbrev pub HoldSame : Triangle → Point → ClipRect → ClipRect → Type 0
+HoldSame t origin r s = (a b : ℕ) → (in_rect r a b && covers t (pos a -ℤ origin.x) (pos b -ℤ origin.y)) ≡ (in_rect s a b && covers t (pos a -ℤ origin.x) (pos b -ℤ origin.y))

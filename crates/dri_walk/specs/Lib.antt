@@ -1,0 +1,5 @@
+pub mod Surfaces
+pub mod Clips
+pub mod Samplings
+pub mod Rows
+pub mod Drawings

@@ -1,0 +1,18 @@
+//! How a card draws a triangle: what the registers decide is decided once, the rows that hold something of the triangle are
+//! walked by spans, and along a span the quantities are stepped. What is drawn on is any surface of pairs of a colour and a
+//! depth.
+#![tactic(auto)]
+
+mod blending;
+mod brush;
+mod clipping;
+mod colouring;
+mod depth_test;
+mod drawing;
+mod rows;
+mod sampler;
+mod surface;
+
+pub use clipping::nearest;
+pub use drawing::draw_triangle;
+pub use surface::{Painter, Surface};
