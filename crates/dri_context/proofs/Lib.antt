@@ -1,6 +1,5 @@
 -- values and their words
 pub mod Numbers
-
 -- readers: what they take, and where they stop
 pub mod Runs
 pub mod Accepted

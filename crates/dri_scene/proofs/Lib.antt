@@ -4,10 +4,8 @@ pub mod Numbers
 pub mod Joins
 pub mod Written
 pub mod Splitting
-
 -- what is read is in range
 pub mod SoundSteps
-
 -- what is printed is read again
 pub mod PrintedWords
 pub mod PrintedLines
