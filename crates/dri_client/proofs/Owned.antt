@@ -58,12 +58,13 @@ script_on ps i n x l is other same = sym (past x (drop (i + 1) ps) other) ∙ (a
     past : (q : ClientScript) (qs : List ClientScript) → (q.number ≡ n → ⊥) → script_in (q ∷ qs) n ≡ script_in qs n
     past q qs ne = let f : (q.number == n) ≡ false = grind (arith, nat_tests) in rw f refl
 
+-- a script's number stands at its place among the numbers
+pub number_stands : (ps : List ClientScript) (i n : ℕ) (x : ClientScript) → i < length ps → x ≡ get_or ps i x → x.number ≡ n → slice_get (client_numbers ps) i ≡ Some n
+number_stands ps i n x l is here = slice_get-map (λ (q : ClientScript). q.number) ps i ∙ (ap (option_map (λ (q : ClientScript). q.number)) (slice_get-get_or ps i x l ∙ ap Some (sym is)) ∙ ap Some here)
+
 -- the number of the script that was read
 pub number_read : (ps : List ClientScript) (i n : ℕ) (x : ClientScript) → i < length ps → x ≡ get_or ps i x → get_or (client_numbers ps) i n ≡ n → x.number ≡ n
-number_read ps i n x l is e = sym (get_or_from_slice_get (client_numbers ps) i x.number n there) ∙ e
-  where
-    there : slice_get (client_numbers ps) i ≡ Some x.number
-    there = slice_get-map (λ (q : ClientScript). q.number) ps i ∙ ap (option_map (λ (q : ClientScript). q.number)) (slice_get-get_or ps i x l ∙ ap Some (sym is))
+number_read ps i n x l is e = sym (get_or_from_slice_get (client_numbers ps) i x.number n (number_stands ps i x.number x l is refl)) ∙ e
 
 -- what a look into the commands finds, as it is copied
 pub looked_up : (xs : List Command) (i : ℕ) (r : Option (Bor Command)) → is_some r ≡ ltb i (length xs) → IfSome r (λ x. x.now ≡ get_or xs i x.now) → option_copied r ≡ slice_get xs i

@@ -7,11 +7,14 @@ ghost use Rattle.dri_kernel.specs.Waiting.{IsActor, IsQueue, leaves};
 use arrayvec::ArrayVec;
 use std::marker::Model;
 
+/// The actors: the server and 32 clients.
+pub(crate) const ACTORS: usize = 33;
+
 /// The actors that wait, none of them twice: 0 is the server, 1 to 32 are the clients. Contracts see the list, the first
 /// first.
 #[derive(Drop)]
 pub struct Queue {
-    actors: ArrayVec<u32, 33>,
+    actors: ArrayVec<u32, ACTORS>,
 }
 
 impl Model for Queue {
