@@ -3,12 +3,13 @@
 //! depth function is three flags, of which a pixel's depth says the one that counts, and whether depth is written is a
 //! flag too: no pixel looks at the registers.
 
-ghost use Rattle.std.specs.Prelude.{◌≡◌, ℕ, length, IsNone, IfSome, ◌↔◌, pos};
+ghost use Rattle.std.specs.Prelude.{◌≡◌, ◌≤◌, ◌+◌, ◌*◌, ℕ, length, IsNone, IfSome, ◌↔◌, pos};
 ghost use Rattle.dri_base.specs.Coverage.{area};
 ghost use Rattle.dri_base.specs.Ranges.{IsPlace, TriangleInRange};
 ghost use Rattle.dri_model.specs.Words.{IsBoundInRange, IsScissorInRange, card_image, rules_in};
 ghost use Rattle.dri_base.specs.Planes.{in_rect};
 ghost use Rattle.dri_plane.specs.Grids.{IsInside};
+ghost use Rattle.dri_walk.specs.Clips.{covered_places};
 ghost use Rattle.dri_walk.specs.Drawings.{after_drawing, fragment_kept, pair_by, pair_left, turned_at, unscissored};
 ghost use Rattle.dri_walk.specs.Samplings.{IsImageWithin, byte_in};
 ghost use Rattle.dri_walk.specs.Surfaces.{PairsBecome, drawn_at};
@@ -26,7 +27,8 @@ use std::sync::ledger::Ledger;
 
 /// Draws a triangle by the registers and the texture memory, at each place of the clip on the surface. The window's pixel is
 /// the screen's less the origin, the window's upper left corner, whose coordinates are -1,024 to 1,024. The clip lies within
-/// the surface, whose sides are at most 1,024.
+/// the surface, whose sides are at most 1,024. It takes at most four steps a place of the clip whose pixel the triangle covers;
+/// a scissor only leaves some out.
 pub fn draw_triangle<S: Surface, L: Ledger>(
     surface: &mut S,
     registers: &Registers,
@@ -47,6 +49,7 @@ pub fn draw_triangle<S: Surface, L: Ledger>(
     ensures pairs { PairsBecome S.holds surface.old surface.new (after_drawing S.kept (rules_in registers.now) (card_image (byte_in memory.now) registers.now.bound) triangle.now clip.now origin) }
     ensures width { S.width surface.new ≡ S.width surface.old }
     ensures height { S.height surface.new ≡ S.height surface.old }
+    ensures bound { steps.new ≤ steps.old + 4 * covered_places triangle.now clip.now origin }
 {
     if let Some(drawing) = Drawing::new(registers, memory, triangle) {
         let rect = narrowed(clip, &registers.scissor, origin);
@@ -73,6 +76,7 @@ impl<'a> Drawing<'a> {
         requires bound { IsBoundInRange registers.now.bound }
         requires within { IsImageWithin (length memory.now) registers.now.bound }
         ensures none { IsNone result ↔ (area triangle.now ≡ pos 0) }
+        ensures setup { IfSome result (λ drawing. drawing.setup ≡ triangle.now) }
         ensures some { IfSome result (λ drawing. (kept : Pixel → Pixel) → pair_left kept drawing ≡ fragment_kept kept (unscissored registers.now) (card_image (byte_in memory.now) registers.now.bound) triangle.now) }
     {
         pixel_rule();
@@ -105,6 +109,7 @@ impl<'a> Drawing<'a> {
         ensures pairs { PairsBecome S.holds surface.old surface.new (drawn_at (in_rect rect.now) origin (pair_left S.kept self.now)) }
         ensures width { S.width surface.new ≡ S.width surface.old }
         ensures height { S.height surface.new ≡ S.height surface.old }
+        ensures bound { steps.new ≤ steps.old + 4 * covered_places self.now.setup rect.now origin }
     {
         match self.flat {
             Some(colour) => self.draw_own(&Flat { colour }, surface, origin, rect, steps),
@@ -129,6 +134,7 @@ impl<'a> Drawing<'a> {
         ensures pairs { PairsBecome S.holds surface.old surface.new (drawn_at (in_rect rect.now) origin (pair_by S.kept self.now (turned_at self.now.texture (C.colours own.now)) self.now.blend)) }
         ensures width { S.width surface.new ≡ S.width surface.old }
         ensures height { S.height surface.new ≡ S.height surface.old }
+        ensures bound { steps.new ≤ steps.old + 4 * covered_places self.now.setup rect.now origin }
     {
         match &self.texture {
             Texture::Off => self.draw_coloured(own, surface, origin, rect, steps),
@@ -168,6 +174,7 @@ impl<'a> Drawing<'a> {
         ensures pairs { PairsBecome S.holds surface.old surface.new (drawn_at (in_rect rect.now) origin (pair_by S.kept self.now (C.colours colouring.now) self.now.blend)) }
         ensures width { S.width surface.new ≡ S.width surface.old }
         ensures height { S.height surface.new ≡ S.height surface.old }
+        ensures bound { steps.new ≤ steps.old + 4 * covered_places self.now.setup rect.now origin }
     {
         match self.blend {
             Blend::Off => {
