@@ -11,3 +11,5 @@ pub mod PrintedWords
 pub mod PrintedLines
 pub mod Sections
 pub mod ReadBack
+-- the scene that is made
+pub mod Generated
