@@ -10,7 +10,7 @@ ghost use Rattle.dri_base.specs.States.{default_state};
 ghost use Rattle.dri_model.specs.CommandWords.{IsTriangle, triangle_words, Buffer as IsBuffer};
 ghost use Rattle.dri_model.specs.Heaps.{uploaded};
 ghost use Rattle.dri_model.specs.Words.{registers_for};
-ghost use Rattle.dri_plane.specs.Grids.{area};
+ghost use Rattle.dri_plane.specs.Grids.{pixel_count};
 ghost use Rattle.dri_card.specs.Contents.{Holds, IsOnCard, IsOpening, KeepSides, Shows, memory_of};
 ghost use Rattle.dri_card.specs.Drawing.{IsDispatchFault, OnlyDrawn, OnlyShown, after_triangle, after_triangles, cleared, covered_centres, painted, swapped};
 ghost use Rattle.dri_walk.specs.Clips.{covered_places};
@@ -185,7 +185,7 @@ impl Card {
         ensures ok { OnOk result ((f : ℕ → ℕ → Pixel) → Holds self.old f → Holds self.new (cleared rect colour depth f)) }
         ensures others { OnlyDrawn self.old self.new }
         ensures sides { KeepSides self.old self.new }
-        ensures cost { OnOk result (steps.new ≡ steps.old + 2 * area rect) }
+        ensures cost { OnOk result (steps.new ≡ steps.old + 2 * pixel_count rect) }
         ensures outside { IfErr result (λ outside. outside ≡ Clip rect) }
         ensures err { OnErr result ((self.new ≡ self.old) × (steps.new ≡ steps.old)) }
     {
@@ -206,7 +206,7 @@ impl Card {
         ensures ok { OnOk result ((f : ℕ → ℕ → Pixel) (shown : ℕ → ℕ → Rgb) → Holds self.old f → Shows self.old shown → Shows self.new (swapped rect f shown)) }
         ensures others { OnlyShown self.old self.new }
         ensures sides { KeepSides self.old self.new }
-        ensures cost { OnOk result (steps.new ≡ steps.old + 2 * area rect) }
+        ensures cost { OnOk result (steps.new ≡ steps.old + 2 * pixel_count rect) }
         ensures outside { IfErr result (λ outside. outside ≡ Clip rect) }
         ensures err { OnErr result ((self.new ≡ self.old) × (steps.new ≡ steps.old)) }
     {
@@ -251,7 +251,7 @@ impl Card {
         ensures ok { OnOk result ((shown : ℕ → ℕ → Rgb) → Shows self.old shown → Shows self.new (painted rect colour shown)) }
         ensures others { OnlyShown self.old self.new }
         ensures sides { KeepSides self.old self.new }
-        ensures cost { OnOk result (steps.new ≡ steps.old + area rect) }
+        ensures cost { OnOk result (steps.new ≡ steps.old + pixel_count rect) }
         ensures outside { IfErr result (λ outside. outside ≡ Clip rect) }
         ensures err { OnErr result ((self.new ≡ self.old) × (steps.new ≡ steps.old)) }
     {

@@ -3,7 +3,7 @@
 ghost use Rattle.std.specs.Prelude.{◌≡◌, ◌<◌, ◌≤◌, ◌+◌, ◌-◌, ◌*◌, ℕ, if◌then◌else◌, IfOk};
 ghost use Rattle.dri_base.specs.declared.colour.Pixel.{Pixel};
 ghost use Rattle.dri_base.specs.Ranges.{IsSide};
-ghost use Rattle.dri_plane.specs.Grids.{area, is_place, IsInside};
+ghost use Rattle.dri_plane.specs.Grids.{pixel_count, is_place, IsInside};
 ghost use Rattle.dri_card.specs.Contents.{HoldPairs, blank};
 ghost use Rattle.dri_card.specs.Drawing.{cleared};
 ghost use Rattle.dri_walk.specs.Surfaces.{left_by, run_painted};
@@ -91,7 +91,7 @@ impl Target {
         ensures pairs { (f : ℕ → ℕ → Pixel) → HoldPairs self.old.back self.old.depth f → HoldPairs self.new.back self.new.depth (cleared rect.now colour depth f) }
         ensures width { self.new.back.width ≡ self.old.back.width }
         ensures height { self.new.back.height ≡ self.old.back.height }
-        ensures cost { steps.new ≡ steps.old + 2 * area rect.now }
+        ensures cost { steps.new ≡ steps.old + 2 * pixel_count rect.now }
     {
         self.back.fill(rect, colour, steps);
         self.depth.fill(rect, depth, steps);

@@ -9,8 +9,8 @@ use Rattle.std.proofs.lemmas.List.Elements.{All-append}
 use Rattle.dri_base.specs.declared.colour.Rgb.{Rgb}
 use Rattle.dri_base.specs.declared.scene.Window.{Window}
 use Rattle.dri_base.specs.declared.shape.Rect.{Rect}
-use Rattle.dri_rect.specs.Pixels.{IsApart, IsProper, inside, has_pixel as rect_has}
-use Rattle.dri_model.specs.Stacks.{is_window, top, has_pixel as window_has}
+use Rattle.dri_rect.specs.Pixels.{IsApart, IsProper, inside, has_pixel}
+use Rattle.dri_model.specs.Stacks.{is_window, top, window_has}
 use Rattle.dri_clips.specs.declared.layout.Layout.{Layout}
 use Rattle.dri_clips.specs.declared.touched.Paint.{Paint}
 use Rattle.dri_clips.specs.Boards.{shows}
@@ -24,7 +24,7 @@ use Rattle.dri_clips.proofs.Painting.{all_pairs_append, nothing_yet, or_else, pa
 
 -- what a window gained
 shows_absent : (width height n : ℕ) (ws : List Window) → IsAbsent n ws → (x y : ℤ) → shows width height ws n x y ≡ false
-shows_absent width height n ws a x y = sym (shown width height ws n x y) ∙ ap (λ b. rect_has (screen_rect width height) x y && b) (never_top n ws a x y) ∙ none (rect_has (screen_rect width height) x y)
+shows_absent width height n ws a x y = sym (shown width height ws n x y) ∙ ap (λ b. has_pixel (screen_rect width height) x y && b) (never_top n ws a x y) ∙ none (has_pixel (screen_rect width height) x y)
   where
     none : (b : Bool) → (b && false) ≡ false
     none true = refl
@@ -65,30 +65,30 @@ gain_none old new at w is e l here gone q rects f v g x y =
 pub larger : (width height : ℕ) (rs : List Rect) → width ≤ 1024 → height ≤ 1024 → AreOnScreen width height rs → AreOnScreen 1024 1024 rs
 larger width height rs a b on x y h = let p = place width height x y (on x y h) in back x y p.left (omega (arith, ints, p.right)) p.top (omega (arith, ints, p.bottom))
   where
-    back : (u v : ℤ) → pos 0 ≤ℤ u → u <ℤ pos 1024 → pos 0 ≤ℤ v → v <ℤ pos 1024 → rect_has (screen_rect 1024 1024) u v ≡ true
+    back : (u v : ℤ) → pos 0 ≤ℤ u → u <ℤ pos 1024 → pos 0 ≤ℤ v → v <ℤ pos 1024 → has_pixel (screen_rect 1024 1024) u v ≡ true
     back u v e f g k = grind (arith, ints)
 
 pub bared_on : (old new : Layout) (rs : List Rect) → AreLayouts old new → ((x y : ℤ) → inside rs x y ≡ (inside new.free x y && not (inside old.free x y))) → AreOnScreen old.width old.height rs
 bared_on old new rs l f x y h =
     let p = and_parts (inside new.free x y) (not (inside old.free x y)) (sym (f x y) ∙ h) in
-    let q = and_parts (rect_has (screen_rect new.width new.height) x y) (is_none (top_at new.stack x y)) (sym (cuts_left (rect_has (screen_rect new.width new.height)) new.stack new.clips.items new.free l.after.cuts x y) ∙ p.0) in
-    subst (λ (k : ℕ). rect_has (screen_rect k old.height) x y ≡ true) l.wide (subst (λ (k : ℕ). rect_has (screen_rect new.width k) x y ≡ true) l.high q.0)
+    let q = and_parts (has_pixel (screen_rect new.width new.height) x y) (is_none (top_at new.stack x y)) (sym (cuts_left (has_pixel (screen_rect new.width new.height)) new.stack new.clips.items new.free l.after.cuts x y) ∙ p.0) in
+    subst (λ (k : ℕ). has_pixel (screen_rect k old.height) x y ≡ true) l.wide (subst (λ (k : ℕ). has_pixel (screen_rect new.width k) x y ≡ true) l.high q.0)
 
 pub gain_on : (old new : Layout) (at : ℕ) (w : Window) (rs : List Rect) → AreLayouts old new → slice_get new.stack at ≡ Some w → IsGain old new at rs → AreOnScreen old.width old.height rs
 gain_on old new at w rs l here gain x y h =
     let p = and_parts (shows new.width new.height new.stack w.number x y) (not (shows old.width old.height old.stack w.number x y)) (sym (gain w here x y) ∙ h) in
-    let q = and_parts (rect_has (screen_rect new.width new.height) x y) (is_window w.number (top_at new.stack x y)) (shown new.width new.height new.stack w.number x y ∙ p.0) in
-    subst (λ (k : ℕ). rect_has (screen_rect k old.height) x y ≡ true) l.wide (subst (λ (k : ℕ). rect_has (screen_rect new.width k) x y ≡ true) l.high q.0)
+    let q = and_parts (has_pixel (screen_rect new.width new.height) x y) (is_window w.number (top_at new.stack x y)) (shown new.width new.height new.stack w.number x y ∙ p.0) in
+    subst (λ (k : ℕ). has_pixel (screen_rect k old.height) x y ≡ true) l.wide (subst (λ (k : ℕ). has_pixel (screen_rect new.width k) x y ≡ true) l.high q.0)
 
 -- on the screen
-on_it : (width height x y : ℕ) → x < width → y < height → rect_has (screen_rect width height) (pos x) (pos y) ≡ true
+on_it : (width height x y : ℕ) → x < width → y < height → has_pixel (screen_rect width height) (pos x) (pos y) ≡ true
 on_it width height x y a b = on_screen width height x y ∙ (rw (lt-ltb x width a, lt-ltb y height b) refl)
 
-free_pixel : (l : Layout) (width height : ℕ) → l.width ≡ width → l.height ≡ height → ((x y : ℤ) → inside l.free x y ≡ (rect_has (screen_rect l.width l.height) x y && is_none (top_at l.stack x y))) → (x y : ℕ) → x < width → y < height → inside l.free (pos x) (pos y) ≡ is_none (top l.stack x y)
+free_pixel : (l : Layout) (width height : ℕ) → l.width ≡ width → l.height ≡ height → ((x y : ℤ) → inside l.free x y ≡ (has_pixel (screen_rect l.width l.height) x y && is_none (top_at l.stack x y))) → (x y : ℕ) → x < width → y < height → inside l.free (pos x) (pos y) ≡ is_none (top l.stack x y)
 free_pixel l width height a b f x y c d =
     f (pos x) (pos y) ∙ (λ i. on i && is_none (top_pixel l.stack x y i))
   where
-    on : rect_has (screen_rect l.width l.height) (pos x) (pos y) ≡ true
+    on : has_pixel (screen_rect l.width l.height) (pos x) (pos y) ≡ true
     on = on_it l.width l.height x y (omega (arith, a)) (omega (arith, b))
 
 pub root_paints : (root : Rgb) (old new : Layout) (rs : List Rect) (ps : List Paint) → AreLayouts old new → ((x y : ℤ) → inside rs x y ≡ (inside new.free x y && not (inside old.free x y))) → AllPairs IsApart rs → AllByRecursion IsProper rs → ps ≡ map (paint_of root) rs →
@@ -109,8 +109,8 @@ root_paints root old new rs ps l f apart proper e = subst (λ (qs : List Paint).
 
     pixel : (x y : ℕ) → x < old.width → y < old.height → inside rs (pos x) (pos y) ≡ (is_none (top new.stack x y) && not (is_none (top old.stack x y)))
     pixel x y a b = f (pos x) (pos y) ∙ (λ i.
-        free_pixel new old.width old.height l.wide l.high (cuts_left (rect_has (screen_rect new.width new.height)) new.stack new.clips.items new.free l.after.cuts) x y a b i
-        && not (free_pixel old old.width old.height refl refl (cuts_left (rect_has (screen_rect old.width old.height)) old.stack old.clips.items old.free l.before.cuts) x y a b i))
+        free_pixel new old.width old.height l.wide l.high (cuts_left (has_pixel (screen_rect new.width new.height)) new.stack new.clips.items new.free l.after.cuts) x y a b i
+        && not (free_pixel old old.width old.height refl refl (cuts_left (has_pixel (screen_rect old.width old.height)) old.stack old.clips.items old.free l.before.cuts) x y a b i))
 
     by : (x y : ℕ) → x < old.width → y < old.height → (if inside rs (pos x) (pos y) then Some root else None) ≡ partly root (top old.stack x y) (top new.stack x y) None
     by x y a b = ap (λ t. if t then Some root else None) (pixel x y a b) ∙ tell (top old.stack x y) (top new.stack x y)

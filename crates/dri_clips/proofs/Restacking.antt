@@ -11,8 +11,9 @@ use Rattle.dri_base.specs.Ranges.{IsPlace, IsSide, WindowInRange, is_corner, is_
 use Rattle.dri_base.proofs.RegionSizes.{corner_is, side_is}
 use Rattle.dri_base.specs.declared.command.Change.{Change}
 use Rattle.dri_base.specs.declared.command.Change.TheVariants.{Map, Unmap, Move, Resize, Raise, Lower}
-use Rattle.dri_model.specs.Stacks.{Refusal, altered, changed, named_by, refusal, refused_at, refused_for, stack_after, unless_refused, window_in, without_owner, unmapped}
-use Rattle.dri_clips.specs.Layouts.{AreApart, IsAbsent, IsPlaced, SameNumbers}
+use Rattle.dri_base.specs.Scenes.{named_by}
+use Rattle.dri_model.specs.Stacks.{Refusal, altered, changed, refusal, refused_at, refused_for, stack_after, unless_refused, window_in, without_owner, unmapped}
+use Rattle.dri_clips.specs.Layouts.{AreDistinct, IsAbsent, IsPlaced, SameNumbers}
 use Rattle.dri_clips.specs.Refusals.{altered_by, destination}
 use Rattle.dri_clips.proofs.Placing.{placed_below, window_at, window_absent}
 
@@ -33,17 +34,17 @@ gone : (n : ℕ) (w : Window) (ws : List Window) → (w.number == n) ≡ true �
 gone n w ws p a = subst (λ (k : ℕ). IsAbsent k ws) (eqb-true w.number n p) a
 
 -- one window is altered, kept or left out
-altered_one : (n i : ℕ) (f : Window → Window) (ws : List Window) (w : Window) → IsPlaced n i ws → AreApart ws → slice_get ws i ≡ Some w → altered n f ws ≡ set ws i (f w)
+altered_one : (n i : ℕ) (f : Window → Window) (ws : List Window) (w : Window) → IsPlaced n i ws → AreDistinct ws → slice_get ws i ≡ Some w → altered n f ws ≡ set ws i (f w)
 altered_one n i f [] w p a e = absurd p
 altered_one n zero f (v ∷ ws) w p a e = let same : v ≡ w = cc in rw p (ap (λ vs. f v ∷ vs) (altered_none n f ws (gone n v ws p a.0)) ∙ ap (λ (u : Window). f u ∷ ws) same)
 altered_one n (suc i) f (v ∷ ws) w p a e = rw p.0 (ap (λ vs. v ∷ vs) (altered_one n i f ws w p.1 a.1 e))
 
-kept_one : (n i : ℕ) (ws : List Window) (w : Window) → IsPlaced n i ws → AreApart ws → slice_get ws i ≡ Some w → filter (λ v. v.number == n) ws ≡ w ∷ []
+kept_one : (n i : ℕ) (ws : List Window) (w : Window) → IsPlaced n i ws → AreDistinct ws → slice_get ws i ≡ Some w → filter (λ v. v.number == n) ws ≡ w ∷ []
 kept_one n i [] w p a e = absurd p
 kept_one n zero (v ∷ ws) w p a e = let same : v ≡ w = cc in rw p (ap (λ vs. v ∷ vs) (kept_none n ws (gone n v ws p a.0)) ∙ ap (λ (u : Window). u ∷ []) same)
 kept_one n (suc i) (v ∷ ws) w p a e = rw p.0 (kept_one n i ws w p.1 a.1 e)
 
-rest_one : (n i : ℕ) (ws : List Window) → IsPlaced n i ws → AreApart ws → filter (λ v. not (v.number == n)) ws ≡ remove ws i
+rest_one : (n i : ℕ) (ws : List Window) → IsPlaced n i ws → AreDistinct ws → filter (λ v. not (v.number == n)) ws ≡ remove ws i
 rest_one n i [] p a = absurd p
 rest_one n zero (v ∷ ws) p a = rw p (rest_all n ws (gone n v ws p a.0))
 rest_one n (suc i) (v ∷ ws) p a = rw p.0 (ap (λ vs. v ∷ vs) (rest_one n i ws p.1 a.1))
@@ -77,12 +78,12 @@ set_same [] i x e = refl
 set_same (y ∷ xs) zero x e = let same : y ≡ x = cc in ap (λ z. z ∷ xs) (sym same)
 set_same (y ∷ xs) (suc i) x e = ap (λ ys. y ∷ ys) (set_same xs i x e)
 
-in_place : (n i : ℕ) (f : Window → Window) (ws : List Window) (w : Window) → IsPlaced n i ws → AreApart ws → slice_get ws i ≡ Some w → move_index (set ws i (f w)) i i ≡ altered n f ws
+in_place : (n i : ℕ) (f : Window → Window) (ws : List Window) (w : Window) → IsPlaced n i ws → AreDistinct ws → slice_get ws i ≡ Some w → move_index (set ws i (f w)) i i ≡ altered n f ws
 in_place n i f ws w p a e =
     let got = got_set ws i (f w) w e in
     move_by (set ws i (f w)) i i (f w) got ∙ put_back (set ws i (f w)) i (f w) got ∙ sym (altered_one n i f ws w p a e)
 
-pub changed_at : (change : Change) (i : ℕ) (ws : List Window) (w : Window) → IsPlaced (named_by change) i ws → AreApart ws → slice_get ws i ≡ Some w →
+pub changed_at : (change : Change) (i : ℕ) (ws : List Window) (w : Window) → IsPlaced (named_by change) i ws → AreDistinct ws → slice_get ws i ≡ Some w →
     move_index (set ws i (altered_by change w)) i (destination change i (length ws - 1)) ≡ changed change ws
 changed_at (Map n) i ws w p a e = in_place n i (λ v. record v { mapped = true }) ws w p a e
 changed_at (Unmap n) i ws w p a e = in_place n i (λ v. record v { mapped = false }) ws w p a e

@@ -5,13 +5,13 @@ use Rattle.std.proofs.lemmas.Bool.{true≢false, eqb-true, le-leb}
 use Rattle.dri_base.specs.declared.scene.Window.{Window}
 use Rattle.dri_base.specs.declared.shape.Rect.{Rect}
 use Rattle.dri_rect.specs.Pixels.{has_pixel, inside}
-use Rattle.dri_model.specs.Stacks.{is_window, top, has_pixel as window_has}
+use Rattle.dri_model.specs.Stacks.{is_window, top, window_has}
 use Rattle.dri_clips.specs.declared.layout.Split.{Split}
 use Rattle.std.specs.Vec.{vec_len}
 use Rattle.dri_clips.specs.declared.layout.Layout.{Layout}
 use Rattle.dri_clips.specs.Boards.{shows}
 use Rattle.dri_clips.proofs.Placing.{placed_below}
-use Rattle.dri_clips.specs.Layouts.{AreApart, AreCuts, IsAbsent, IsCut, IsLayout, IsPlaced, covers, screen_rect, window_rect}
+use Rattle.dri_clips.specs.Layouts.{AreDistinct, AreCuts, IsAbsent, IsCut, IsLayout, IsPlaced, covers, screen_rect, window_rect}
 
 -- the topmost window at a place, which may lie off the screen
 abbrev pub top_at : List Window → ℤ → ℤ → Option Window
@@ -49,7 +49,7 @@ and_true true = refl
 and_true false = refl
 
 -- the part of window n has the places at which it is on top
-pub cuts_at : (S : ℤ → ℤ → Bool) (ws : List Window) (cs : List (List Rect)) (free : List Rect) → AreCuts S ws cs free → AreApart ws → (n i : ℕ) → IsPlaced n i ws → (d : List Rect) (x y : ℤ) → inside (get_or cs i d) x y ≡ (S x y && is_window n (top_at ws x y))
+pub cuts_at : (S : ℤ → ℤ → Bool) (ws : List Window) (cs : List (List Rect)) (free : List Rect) → AreCuts S ws cs free → AreDistinct ws → (n i : ℕ) → IsPlaced n i ws → (d : List Rect) (x y : ℤ) → inside (get_or cs i d) x y ≡ (S x y && is_window n (top_at ws x y))
 cuts_at S [] cs free a apart n i p d x y = absurd p
 cuts_at S (w ∷ ws) [] free a apart n i p d x y = absurd a
 cuts_at S (w ∷ ws) (c ∷ cs) free a apart n zero p d x y = a.0 x y ∙ ap (λ b. S x y && b) (by (covers w x y) refl)

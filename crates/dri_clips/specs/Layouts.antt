@@ -27,9 +27,9 @@ abbrev pub IsAbsent : ℕ → List Window → Type 0
 IsAbsent n ws = AllByRecursion (λ w. (w.number == n) ≡ false) ws
 
 -- no two windows have one number
-abbrev pub AreApart : List Window → Type 0
-AreApart [] = Unit {0}
-AreApart (w ∷ ws) = IsAbsent w.number ws × AreApart ws
+abbrev pub AreDistinct : List Window → Type 0
+AreDistinct [] = Unit {0}
+AreDistinct (w ∷ ws) = IsAbsent w.number ws × AreDistinct ws
 
 -- window n is at place i from the top, and no window above it has its number
 abbrev pub IsPlaced : ℕ → ℕ → List Window → Type 0
@@ -58,7 +58,7 @@ pub record IsLayout (l : Layout) : Type 0 where
   pub wide : IsSide l.width
   pub high : IsSide l.height
   pub ranged : All WindowInRange l.stack
-  pub apart : AreApart l.stack
+  pub apart : AreDistinct l.stack
   pub cuts : AreCuts (has_pixel (screen_rect l.width l.height)) l.stack l.clips.items l.free
 
 -- the two are layouts of one screen, with windows of the same numbers

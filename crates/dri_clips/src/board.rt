@@ -10,7 +10,7 @@ ghost use Rattle.dri_clips.specs.Boards.{AreClipsOf, IsOpening, IsRestacked, is_
 ghost use Rattle.dri_clips.specs.Layouts.{SameNumbers};
 ghost use Rattle.dri_clips.specs.Paints.{IsTouched};
 
-use crate::change::{changed, place_to_change, without_owner};
+use crate::change::{place_to_change, stack_after, without_owner};
 use crate::layout::Layout;
 use crate::paints::paints;
 use crate::stack::Stack;
@@ -98,7 +98,7 @@ impl Board {
         ensures err { OnErr result (self.new ≡ self.old) }
     {
         let at = place_to_change(&self.layout.stack, change)?;
-        let stack = changed(&self.layout.stack, at, change)?;
+        let stack = stack_after(&self.layout.stack, at, change)?;
         Ok(self.restack(alloc, stack, steps)?)
     }
 

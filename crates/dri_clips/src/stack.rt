@@ -2,7 +2,7 @@
 
 ghost use Rattle.std.specs.Prelude.{◌≡◌, ◌<◌, length, slice_get, slice_set, Some, IfOk, IfSome, IfNone};
 ghost use Rattle.indexmap.specs.IndexMap.{move_index};
-ghost use Rattle.dri_clips.specs.Layouts.{AreApart, IsAbsent, IsPlaced};
+ghost use Rattle.dri_clips.specs.Layouts.{AreDistinct, IsAbsent, IsPlaced};
 
 use dri_base::{OutOfMemory, Window};
 use indexmap::IndexMap;
@@ -31,7 +31,7 @@ impl Model for Stack {
 impl Stack {
     /// The stack of these windows, no two of which have one number.
     pub fn from_windows(alloc: Global, windows: &[Window]) -> Result<Stack, OutOfMemory>
-        requires { AreApart windows.now }
+        requires { AreDistinct windows.now }
         ensures { IfOk result (λ stack. stack ≡ windows.now) }
     {
         let mut stack = IndexMap::with_capacity(alloc, windows.len())?;
@@ -53,7 +53,7 @@ impl Stack {
     /// How many windows there are. No two of them have one number.
     pub fn len(&self) -> usize
         ensures len { result ≡ length self.now }
-        ensures apart { AreApart self.now }
+        ensures apart { AreDistinct self.now }
     {
         self.windows.len()
     }

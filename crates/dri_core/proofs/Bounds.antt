@@ -21,7 +21,7 @@ use Rattle.dri_core.specs.Measures.{one_if}
 use Rattle.dri_core.specs.Phases.{Phase, Out, Old, In, Over, Ask, Asking, Ended, Dead, is_done}
 use Rattle.dri_core.specs.Privates.{Private, is_ready}
 use Rattle.dri_core.specs.Restacks.{touched_by, next_stack}
-use Rattle.dri_core.specs.Runs.{after_entries, LegalEntries, after, HoldRun}
+use Rattle.dri_core.specs.Runs.{after_entries, LegalEntries, after, HoldRun, most_age, most_stamp}
 use Rattle.dri_core.specs.Worlds.{World, opening, put}
 use Rattle.dri_core.proofs.Endings.{has_command}
 use Rattle.dri_core.proofs.Lively.{Lively, lively_opened, lively_step}
@@ -237,9 +237,9 @@ few_clients s good =
     let all = numbers_within (ClientInRange s.windows (heap_bytes s)) s.clients good.scripted.each (λ p c. c.numbered) in
     omega (arith, length-map s.clients (λ p. p.number), rising_length (client_numbers s.clients) 0 32 all.0 all.1 good.scripted.rising (omega arith))
 
--- the bounds as numbers
-pub age_most_of_all : (s : Scene) (journal : List Entry) → InRange s → HoldRun s journal → (after s journal).heap.global ≤ 300000
+-- the bounds that no journal passes
+pub age_most_of_all : (s : Scene) (journal : List Entry) → InRange s → HoldRun s journal → (after s journal).heap.global ≤ most_age
 age_most_of_all s journal good run = omega (arith, age_bounded s journal good run, good.few)
 
-pub stamp_most : (s : Scene) (journal : List Entry) → InRange s → HoldRun s journal → (after s journal).counter ≤ 268321
+pub stamp_most : (s : Scene) (journal : List Entry) → InRange s → HoldRun s journal → (after s journal).counter ≤ most_stamp
 stamp_most s journal good run = omega (arith, counter_bounded s journal good run, good.changed.few, few_clients s good)

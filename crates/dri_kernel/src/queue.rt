@@ -1,8 +1,8 @@
 //! The actors that wait for the lock, in the order in which they came: a vector in fixed memory, with room for all 33.
 
-ghost use Rattle.std.specs.Prelude.{◌≡◌, ◌++◌, [], ◌∷◌, ◌↔◌, ◌≤◌, ◌==◌, IsTrue, Contains, slice_get, length};
-ghost use Rattle.std.specs.List.{list_any};
-ghost use Rattle.dri_kernel.specs.Waiting.{IsActor, IsQueue, leaves};
+ghost use Rattle.std.specs.Prelude.{◌≡◌, ◌++◌, [], ◌∷◌, ◌↔◌, ◌≤◌, ◌==◌, IsTrue, Contains, not, slice_get, length};
+ghost use Rattle.std.specs.List.{filter, list_any};
+ghost use Rattle.dri_kernel.specs.Waiting.{IsActor, IsQueue};
 
 use arrayvec::ArrayVec;
 use std::marker::Model;
@@ -56,7 +56,7 @@ impl Queue {
 
     /// Takes an actor out, and leaves the others in their order. Where it doesn't wait the queue stays as it was.
     pub fn remove(&mut self, actor: u32)
-        ensures { self.new ≡ leaves actor self.old }
+        ensures { self.new ≡ filter (λ other. not (other == actor)) self.old }
     {
         self.actors.retain(|other| *other != actor);
     }

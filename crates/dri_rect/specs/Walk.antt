@@ -176,7 +176,7 @@ abbrev pub Ends : List Rect → ℤ → Type 0
 Ends [] top = Unit {0}
 Ends (r ∷ rs) top = r.y1 ≢ top
 
--- xs is the part of rs in front with this first line
+-- xs is the prefix of rs with this first line
 pub record Split (rs xs ys : List Rect) (top : ℤ) : Type 0 where
   pub whole : rs ≡ xs ++ ys
   pub band : AllByRecursion (λ r. r.y1 ≡ top) xs
@@ -280,12 +280,12 @@ lowered bottom rs = map (λ r. rectangle r.x1 r.y1 r.x2 bottom) rs
 
 -- the rows from start on get another last line: those before place i have it
 pub record Lowering (old now : List Rect) (start i : ℕ) (bottom : ℤ) : Type 0 where
-  pub front : List Rect
+  pub prefix : List Rect
   pub done : List Rect
   pub rest : List Rect
-  pub whole : old ≡ front ++ (done ++ rest)
-  pub items : now ≡ (front ++ lowered bottom done) ++ rest
-  pub begins : length front ≡ start
+  pub whole : old ≡ prefix ++ (done ++ rest)
+  pub items : now ≡ (prefix ++ lowered bottom done) ++ rest
+  pub begins : length prefix ≡ start
   pub place : i ≡ start + length done
 
 -- the last two rows begin at start and at fresh: what they become, and where the last row begins then

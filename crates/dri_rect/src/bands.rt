@@ -27,7 +27,7 @@ fn begins_at(rects: &[Rect], n: usize, top: i32) -> bool
     }
 }
 
-/// The rectangles in front that begin at the line, and those behind them.
+/// The first rectangles, those that begin at the line, and those behind them.
 fn split_band(rects: &[Rect], top: i32) -> (&[Rect], &[Rect])
     ensures { Split rects.now result.0.now result.1.now top }
 {
