@@ -3,5 +3,7 @@
 
 mod header;
 mod whole;
+mod write;
 
 pub use whole::{picture_bytes, ppm_bytes};
+pub use write::write_ppm;
