@@ -1,9 +1,6 @@
 -- lists and texts
-pub mod TextSizes
 pub mod Numbers
 pub mod Joins
-pub mod Written
-pub mod Splitting
 -- what is read is in range
 pub mod SoundSteps
 -- what is printed is read again

@@ -12,11 +12,11 @@ use Rattle.dri_base.specs.declared.colour.Rgba.{Rgba}
 use Rattle.dri_words.specs.Words.{nibble_of, byte_of, colour_of, colour_alpha_of}
 use Rattle.dri_words.specs.Ranges.{within, signed_within}
 use Rattle.dri_words.specs.Words.{signed_of}
-use Rattle.dri_scene.proofs.Written.{unsigned_read, negative_read}
+use Rattle.dri_words.proofs.Written.{unsigned_read, negative_read}
 use Rattle.dri_scene.specs.Forms.{is_hex_digit}
 use Rattle.dri_scene.specs.Readings.{digit_value, image_bytes}
 use Rattle.dri_scene.specs.Texts.{digit, hex, colour_word, colour_alpha_word}
-use Rattle.dri_scene.proofs.Splitting.{is_word}
+use Rattle.dri_words.proofs.Splitting.{is_word}
 
 word_append : (xs ys : List ℕ) → is_word xs ≡ true → is_word ys ≡ true → is_word (xs ++ ys) ≡ true
 word_append [] ys first second = second

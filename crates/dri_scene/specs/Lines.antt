@@ -1,5 +1,5 @@
 -- A line: a form whose numbers are in their ranges.
-use Rattle.std.specs.Prelude.{ℕ, ◌*◌, ℤ, pos, neg_ℤ, length, Bool, ◌==◌, ◌||◌, if◌then◌else◌, Some, None}
+use Rattle.std.specs.Prelude.{◌*◌, ℤ, pos, neg_ℤ, length, ◌==◌, if◌then◌else◌, Some, None}
 use Rattle.std.specs.declared.option.Option.{Option}
 use Rattle.dri_base.specs.declared.colour.Rgb.{Rgb}
 use Rattle.dri_base.specs.declared.command.Change.{Change}

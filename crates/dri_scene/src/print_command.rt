@@ -4,7 +4,8 @@ ghost use Rattle.std.specs.Prelude.{◌≡◌, ◌++◌, ◌∷◌, [], ℕ, Lis
 ghost use Rattle.dri_base.specs.declared.command.Command.TheVariants as Command;
 ghost use Rattle.dri_base.specs.declared.state.Setting.TheVariants as Setting;
 ghost use Rattle.dri_scene.specs.Stored.{IsCorner, IsStoredCommand};
-ghost use Rattle.dri_scene.specs.Texts.{Adds, blend_word, command_words, corner_words, depth_func_word, line_bytes, setting_words, shade_word, switch_word, tex_mode_word, words_bytes, wrap_word};
+ghost use Rattle.dri_scene.specs.Texts.{Adds, blend_word, command_words, corner_words, depth_func_word, setting_words, shade_word, switch_word, tex_mode_word, wrap_word};
+ghost use Rattle.dri_words.specs.Lines.{line_bytes, words_bytes};
 
 use crate::words::{
     end_line, push_bytes, push_colour, push_colour_alpha, push_number, push_signed, push_small,
