@@ -18,4 +18,5 @@ mod touched;
 
 pub use board::Board;
 pub use change::ChangeFault;
+pub use paints::clip_rect;
 pub use touched::{Paint, Paints, Touched};

@@ -16,8 +16,8 @@ use dri_rect::Region;
 use std::alloc::Global;
 use std::sync::ledger::Ledger;
 
-/// A rectangle of the screen.
-fn clip_rect(rect: &Rect) -> ClipRect
+/// A rectangle of the screen, whose numbers are 0 to 1,024, as the card takes it.
+pub fn clip_rect(rect: &Rect) -> ClipRect
     requires { IsRectOnScreen 1024 1024 rect.now }
     ensures { result ≡ clip_rect rect.now }
 {
