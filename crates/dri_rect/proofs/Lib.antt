@@ -1,5 +1,6 @@
 pub mod Unique
 pub mod RowWalks
+pub mod Uniting
 pub mod BandWalks
 pub mod Regions
 pub mod Arrangement

@@ -1,5 +1,5 @@
 -- What the walks over two rows, and over the bands of two regions, keep and answer.
-use Rattle.std.specs.Prelude.{ℤ, pos, List, [], ◌∷◌, ◌++◌, ◌≡◌, ◌≢◌, ◌<ℤ◌, ◌≤ℤ◌, ◌-ℤ◌, ◌⊎◌, ℕ, ◌+◌, length, take, drop, Bool, true, false, ◌&&◌, ◌||◌, not, map, int_le, int_lt, if◌then◌else◌}
+use Rattle.std.specs.Prelude.{ℤ, pos, List, [], ◌∷◌, ◌++◌, ◌≡◌, ◌≢◌, ◌<ℤ◌, ◌≤ℤ◌, ◌-ℤ◌, ◌⊎◌, ℕ, ◌+◌, ◌<◌, length, take, drop, Bool, true, false, ◌&&◌, ◌||◌, not, map, int_le, int_lt, if◌then◌else◌}
 use Rattle.std.specs.Ordering.{int_eq}
 use Rattle.std.specs.List.{AllByRecursion}
 use Rattle.dri_base.specs.declared.shape.Rect.{Rect}
@@ -145,6 +145,49 @@ pub record RowWalk (op : Operation) (one other first second old out : List Rect)
   pub written : Written old out top bottom a b x (λ z. answer op (row one z) (row other z))
   pub low : least ≤ℤ x
   pub high : x ≤ℤ most
+
+-- the rectangles begin at x or behind it
+abbrev pub From : List Rect → ℤ → Type 0
+From rs x = AllByRecursion (λ r. x ≤ℤ r.x1) rs
+
+-- the columns from x1 up to, and without, x2 are those of the rectangle that begins first in two rows, of which these stay
+pub record IsPicked (rs ss : List Rect) (x1 x2 : ℤ) (rs' ss' : List Rect) : Type 0 where
+  pub longer : x1 <ℤ x2
+  pub low : least ≤ℤ x1
+  pub high : x2 ≤ℤ most
+  pub begins : (n : ℤ) → From rs n → From ss n → n ≤ℤ x1
+  pub first_row : IsRow rs'
+  pub second_row : IsRow ss'
+  pub first_from : From rs' x1
+  pub second_from : From ss' x1
+  pub fewer : length rs' + length ss' < length rs + length ss
+  pub same : (z : ℤ) → (row rs z || row ss z) ≡ ((int_le x1 z && int_lt z x2) || (row rs' z || row ss' z))
+
+-- what is written where the columns from a to b are open, and some come that begin at x1, which is a or behind it
+abbrev pub widened : List Rect → ℤ → ℤ → ℤ → ℤ → ℤ → List Rect
+widened out top bottom a b x1 = if int_le x1 b then out else put out top bottom a b
+
+-- where the columns begin, and end, that are open from then on
+abbrev pub wide_from : ℤ → ℤ → ℤ → ℤ
+wide_from a b x1 = if int_le x1 b then a else x1
+
+abbrev pub wide_to : ℤ → ℤ → ℤ → ℤ
+wide_to b x1 x2 = if int_le x1 b then greater_of b x2 else x2
+
+-- what the union of two rows keeps: what is written, the columns from a to b that are open, and what is left of both
+pub record Uniting (one other first second old out : List Rect) (top bottom a b : ℤ) : Type 0 where
+  pub fresh : List Rect
+  pub items : out ≡ old ++ placed top bottom fresh
+  pub is_row : IsRow fresh
+  pub before : AllByRecursion (λ r. r.x2 <ℤ a) fresh
+  pub order : a ≤ℤ b
+  pub low : least ≤ℤ a
+  pub high : b ≤ℤ most
+  pub first_row : IsRow first
+  pub second_row : IsRow second
+  pub first_from : From first a
+  pub second_from : From second a
+  pub right : (z : ℤ) → ((row fresh z || (int_le a z && int_lt z b)) || (row first z || row second z)) ≡ (row one z || row other z)
 
 -- the row that the operation makes of two rows
 pub record IsCombined (op : Operation) (a b out : List Rect) : Type 0 where

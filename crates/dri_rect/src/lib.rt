@@ -6,8 +6,8 @@
 //! pixels has exactly one list.
 //!
 //! Unite, subtract and intersect share one walk down the bands of both lists, which is linear in them. Where it comes to
-//! a line at which one of the two may change, it combines the rows of columns there, by a walk of the same shape to the
-//! right. The band that is written last is held back until the next one is known to differ.
+//! a line at which one of the two may change, it combines the rows of columns there, by a walk to the right. The band that
+//! is written last is held back until the next one is known to differ.
 #![tactic(auto)]
 
 mod bands;

@@ -1,9 +1,11 @@
-//! The walk to the right over two rows of columns. A row is a list of rectangles from left to right that don't touch;
+//! The walks to the right over two rows of columns: one that asks from column to column what the operation gives, and one
+//! for unions, which takes the rectangle that begins first. A row is a list of rectangles from left to right that don't touch;
 //! the lines of the two are not looked at, and what is written has the lines that are given.
 
-ghost use Rattle.std.specs.Prelude.{◌≡◌, ◌++◌, ◌≤ℤ◌, OnOk, IfOk};
+ghost use Rattle.std.specs.Prelude.{◌≡◌, ◌++◌, ◌≤ℤ◌, ◌||◌, true, OnOk, IfOk};
+ghost use Rattle.std.specs.Option.{MatchOption};
 ghost use Rattle.dri_rect.specs.Pixels.{most};
-ghost use Rattle.dri_rect.specs.Walk.{IsRow, Ahead, Reaches, Next, Later, IsLesser, Added, row, answer, lesser_of, greater_of, start_of, end_of, put, gone_on, opened, open_to, placed, same_columns, both_empty, is_done, IsLevel};
+ghost use Rattle.dri_rect.specs.Walk.{IsRow, Ahead, Reaches, Next, Later, IsLesser, Added, row, answer, lesser_of, greater_of, start_of, end_of, put, gone_on, opened, open_to, placed, same_columns, both_empty, is_done, IsLevel, IsPicked, widened, wide_from, wide_to};
 
 use crate::operation::Operation;
 use dri_base::{OutOfMemory, Rect};
@@ -19,6 +21,17 @@ pub const BEHIND: i32 = 4097;
 struct Columns {
     x1: i32,
     x2: i32,
+}
+
+/// The columns of a rectangle.
+fn columns_of(rect: &Rect) -> Columns
+    ensures x1 { result.x1 ≡ rect.now.x1 }
+    ensures x2 { result.x2 ≡ rect.now.x2 }
+{
+    Columns {
+        x1: rect.x1,
+        x2: rect.x2,
+    }
 }
 
 /// The lesser of two places.
@@ -186,6 +199,76 @@ fn walk_rows(
     Ok(())
 }
 
+/// The columns that begin first in two rows, and what stays of both; `None` where nothing is left.
+#[tactic(auto, using(crate::proofs::Uniting::pick_none, crate::proofs::Uniting::pick_alone, crate::proofs::Uniting::pick_last))]
+fn pick<'a>(left: &'a [Rect], right: &'a [Rect]) -> Option<(Columns, &'a [Rect], &'a [Rect])>
+    requires left { IsRow left.now }
+    requires right { IsRow right.now }
+    ensures { MatchOption result (both_empty left.now right.now ≡ true) (λ p. IsPicked left.now right.now p.0.x1 p.0.x2 p.1.now p.2.now) }
+{
+    let Some((one, more)) = left.split_first() else {
+        let (other, others) = right.split_first()?;
+        return Some((columns_of(other), left, others));
+    };
+    let Some((other, others)) = right.split_first() else {
+        return Some((columns_of(one), more, right));
+    };
+    if other.x1 < one.x1 {
+        return Some((columns_of(other), left, others));
+    }
+    Some((columns_of(one), more, right))
+}
+
+/// Goes on with columns that begin where the open ones begin or behind: where they touch these they are joined to them, else
+/// the open ones end. Answers the open columns.
+fn widen(
+    into: &mut Vec<Rect>,
+    begun: Columns,
+    next: Columns,
+    top: i32,
+    bottom: i32,
+) -> Result<Columns, OutOfMemory>
+    ensures items { OnOk result (into.new.items ≡ widened into.old.items top bottom begun.x1 begun.x2 next.x1) }
+    ensures x1 { IfOk result (λ columns. columns.x1 ≡ wide_from begun.x1 begun.x2 next.x1) }
+    ensures x2 { IfOk result (λ columns. columns.x2 ≡ wide_to begun.x2 next.x1 next.x2) }
+{
+    if next.x1 <= begun.x2 {
+        return Ok(Columns {
+            x1: begun.x1,
+            x2: greater(begun.x2, next.x2),
+        });
+    }
+    put(into, begun.x1, begun.x2, top, bottom)?;
+    Ok(next)
+}
+
+/// The columns of either row. It takes the rectangle that begins first, again and again.
+fn unite_rows(
+    first: &[Rect],
+    second: &[Rect],
+    top: i32,
+    bottom: i32,
+    into: &mut Vec<Rect>,
+) -> Result<(), OutOfMemory>
+    requires first { IsRow first.now }
+    requires second { IsRow second.now }
+    ensures { OnOk result (Added into.old.items into.new.items top bottom (λ z. row first.now z || row second.now z)) }
+{
+    let mut left = first;
+    let mut right = second;
+    let mut begun = Columns {
+        x1: LEAST,
+        x2: LEAST,
+    };
+    while let Some((next, more, others)) = pick(left, right) {
+        begun = widen(into, begun, next, top, bottom)?;
+        left = more;
+        right = others;
+    }
+    put(into, begun.x1, begun.x2, top, bottom)?;
+    Ok(())
+}
+
 /// Puts a row last, between two lines.
 fn place(row: &[Rect], top: i32, bottom: i32, into: &mut Vec<Rect>) -> Result<(), OutOfMemory>
     ensures { OnOk result (into.new.items ≡ into.old.items ++ placed top bottom row.now) }
@@ -248,7 +331,7 @@ pub fn combine_rows(
             if first.is_empty() {
                 return copy_row(second, top, bottom, into);
             }
-            walk_rows(Operation::Unite, first, second, top, bottom, into)
+            unite_rows(first, second, top, bottom, into)
         }
         Operation::Subtract => {
             if second.is_empty() {

@@ -5,7 +5,6 @@ use Rattle.dri_model.specs.Stacks.{stack_after, touches}
 use Rattle.dri_clips.specs.Boards.{IsRestacked, Screen}
 use Rattle.dri_clips.specs.declared.change.ChangeFault.{ChangeFault}
 use Rattle.dri_clips.specs.declared.touched.Touched.{Touched}
-use Rattle.dri_bench.proofs.boards.raise.Goals as goal
 
 few : (r : Result Touched ChangeFault) (change : Change) (old new : Screen) → OnOk r (IsRestacked (stack_after change old.stack) old new) → OnErr r (new ≡ old) → touches old.width old.height old.stack (stack_after change old.stack) ≤ 64 → new.counter ≤ old.counter + 64
 few (Ok touched) change old new ok err most = omega (arith, ok.counter, most)
