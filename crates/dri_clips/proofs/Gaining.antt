@@ -6,6 +6,7 @@ use Rattle.std.proofs.lemmas.Bool.{true≢false, and_parts, lt-ltb}
 use Rattle.std.proofs.lemmas.Int.{ints}
 use Rattle.std.proofs.lemmas.List.{take_all}
 use Rattle.std.proofs.lemmas.List.Elements.{All-append}
+use Rattle.std.proofs.lemmas.Option.{same_Some}
 use Rattle.dri_base.specs.declared.colour.Rgb.{Rgb}
 use Rattle.dri_base.specs.declared.scene.Window.{Window}
 use Rattle.dri_base.specs.declared.shape.Rect.{Rect}
@@ -33,12 +34,9 @@ shows_absent width height n ws a x y = sym (shown width height ws n x y) ∙ ap 
 pub gain_some : (old new : Layout) (at before : ℕ) (w : Window) (was is d e : List Rect) → AreLayouts old new → slice_get new.stack at ≡ Some w → IsPlaced w.number before old.stack → was ≡ get_or old.clips.items before d → is ≡ get_or new.clips.items at e →
     (rects : List Rect) → ((x y : ℤ) → inside rects x y ≡ (inside is x y && not (inside was x y))) → IsGain old new at rects
 gain_some old new at before w was is d e l here there p q rects f v g x y =
-    let same : w ≡ v = some_same w v (sym here ∙ g) in
+    let same : w ≡ v = same_Some w v (sym here ∙ g) in
     f x y ∙ (λ i. now i && not (before_it i)) ∙ ap (λ (u : Window). shows new.width new.height new.stack u.number x y && not (shows old.width old.height old.stack u.number x y)) same
   where
-    some_same : (a b : Window) → Some a ≡ Some b → a ≡ b
-    some_same a b h = cc
-
     now : inside is x y ≡ shows new.width new.height new.stack w.number x y
     now = ap (λ (rs : List Rect). inside rs x y) q ∙ layout_clips new w.number at e l.after (placed_here new.stack at w l.after.apart here) x y
 
@@ -47,12 +45,9 @@ gain_some old new at before w was is d e l here there p q rects f v g x y =
 
 pub gain_none : (old new : Layout) (at : ℕ) (w : Window) (is e : List Rect) → AreLayouts old new → slice_get new.stack at ≡ Some w → IsAbsent w.number old.stack → is ≡ get_or new.clips.items at e → (rects : List Rect) → rects ≡ is → IsGain old new at rects
 gain_none old new at w is e l here gone q rects f v g x y =
-    let same : w ≡ v = some_same w v (sym here ∙ g) in
+    let same : w ≡ v = same_Some w v (sym here ∙ g) in
     now ∙ ap (λ (u : Window). shows new.width new.height new.stack u.number x y && not (shows old.width old.height old.stack u.number x y)) same
   where
-    some_same : (a b : Window) → Some a ≡ Some b → a ≡ b
-    some_same a b h = cc
-
     keep : (b : Bool) → b ≡ (b && not false)
     keep true = refl
     keep false = refl

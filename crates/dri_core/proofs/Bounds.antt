@@ -1,5 +1,5 @@
 -- How high ages and stamps can rise.
-use Rattle.std.proofs.Common.{◌≡◌, ◌<◌, ◌≤◌, ◌+◌, ◌*◌, ℕ, zero, suc, List, [], ◌∷◌, length, Bool, true, false, arith, refl, ap, ◌∙◌, inl, inr}
+use Rattle.std.proofs.Common.{◌≡◌, ◌<◌, ◌≤◌, ◌+◌, ◌*◌, ℕ, suc, List, [], ◌∷◌, length, Bool, true, false, arith, refl, ap, ◌∙◌, inl, inr}
 use Rattle.std.specs.Prelude.{◌==◌, ◌⊎◌, nat_le, pred, AllPairs}
 use Rattle.std.specs.List.{All, sum_by}
 use Rattle.std.proofs.lemmas.Bool.Decides.{nat_tests}
@@ -13,8 +13,8 @@ use Rattle.dri_base.specs.declared.scene.Scene.{Scene}
 use Rattle.dri_base.specs.Ranges.{InRange, ClientInRange, heap_bytes, client_numbers, command_count, IsWithin}
 use Rattle.dri_base.specs.Scenes.{script_in, commands_of}
 use Rattle.dri_base.proofs.RangeLemmas.{IsWellFormed, well_formed}
-use Rattle.dri_model.specs.Counting.{how_many}
 use Rattle.dri_model.specs.Stacks.{without_owner}
+use Rattle.dri_model.proofs.Counts.{how_many_all}
 use Rattle.dri_core.specs.Effects.{run_by, placed_by, taken_in, told, after_leave}
 use Rattle.dri_core.specs.EntryTable.{LegalEntry, after_entry}
 use Rattle.dri_core.specs.Measures.{one_if}
@@ -37,10 +37,6 @@ is_dead _ = false
 
 abbrev pub deaths : Scene → World → ℕ
 deaths s w = sum_by (λ c. one_if (is_dead (w.client c).phase)) (client_numbers s.clients)
-
-pub how_many_most : (p : ℕ → Bool) (n : ℕ) → how_many p n ≤ n
-how_many_most p zero = omega arith
-how_many_most p (suc n) = grind (arith, how_many_most p n)
 
 -- the dead stay dead
 abbrev pub StaysDead : World → ℕ → Private → Type 0
@@ -90,8 +86,8 @@ abbrev pub IsCounterBounded : Scene → World → Type 0
 IsCounterBounded s w = w.counter ≤ 1 + 65 * (w.made + deaths s w)
 
 pub counter_step : (s : Scene) (w : World) (e : Entry) → Lively s w → LegalEntry s w e → IsCounterBounded s w → IsCounterBounded s (after_entry s w e)
-counter_step s w (Change i) lively legal old = omega (arith, old, how_many_most (touched_by s w (next_stack s w)) 65)
-counter_step s w (Gone c) lively legal old = omega (arith, old, how_many_most (touched_by s w (without_owner c w.stack)) 65, one_more_death s w c lively legal)
+counter_step s w (Change i) lively legal old = omega (arith, old, how_many_all (touched_by s w (next_stack s w)) 65)
+counter_step s w (Gone c) lively legal old = omega (arith, old, how_many_all (touched_by s w (without_owner c w.stack)) 65, one_more_death s w c lively legal)
 counter_step s w (Light c) lively legal old = omega (arith, old, deaths_stay s w (Light c) legal)
 counter_step s w (Kernel c found) lively legal old = omega (arith, old, deaths_stay s w (Kernel c found) legal)
 counter_step s w (Stale c) lively legal old = omega (arith, old, deaths_stay s w (Stale c) legal)
