@@ -6,4 +6,5 @@ pub mod StoodFrames
 pub mod Wholes
 mod PixelRules
 mod SoloPixels
+mod Painting
 pub mod ScriptRanges

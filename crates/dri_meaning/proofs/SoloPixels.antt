@@ -64,7 +64,7 @@ pub solo_whole : (p : ClientScript) (first last : ℕ) (x y : ℤ) → first < l
 solo_whole p first last x y order = let e : last - first ≡ suc (last - suc first) = omega (arith, order) in rw e refl
 
 -- what a plane's pixels become
-mapped_plane : {A B : Type 0} (g : A → B) (width height : ℕ) (f : ℕ → ℕ → A) → map g (plane width height f) ≡ plane width height (λ x y. g (f x y))
+pub mapped_plane : {A B : Type 0} (g : A → B) (width height : ℕ) (f : ℕ → ℕ → A) → map g (plane width height f) ≡ plane width height (λ x y. g (f x y))
 unfolding first_pixels
 mapped_plane g width height f = map-map g (λ k. f (k % width) (k / width)) (range_with_len 0 (width * height))
 
