@@ -9,4 +9,5 @@ pub mod Wholes
 -- what is drawn alone
 mod PixelRules
 mod SoloPixels
+mod Painting
 pub mod ScriptRanges

@@ -56,7 +56,7 @@ state_after_on cs first n k command old new positive place here is_state then =
     rw e (rw (state_on cs (first + n) (omega (arith, positive)), at, ← is_state) then)
 
 -- what a plane's pixels become
-mapped_plane : {A B : Type 0} (g : A → B) (width height : ℕ) (f : ℕ → ℕ → A) → map g (plane width height f) ≡ plane width height (λ x y. g (f x y))
+pub mapped_plane : {A B : Type 0} (g : A → B) (width height : ℕ) (f : ℕ → ℕ → A) → map g (plane width height f) ≡ plane width height (λ x y. g (f x y))
 unfolding first_pixels
 mapped_plane g width height f = map-map g (λ k. f (k % width) (k / width)) (range_with_len 0 (width * height))
 

@@ -4,6 +4,7 @@
 #![tactic(auto)]
 
 mod bound;
+mod canvas;
 mod frame;
 mod picture;
 mod settings;

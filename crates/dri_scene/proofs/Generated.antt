@@ -1,12 +1,12 @@
 -- The scene that is made: its lists grow by one, and each of its parts is in range.
-use Rattle.std.proofs.Common.{◌≡◌, ◌≢◌, ◌<◌, ◌≤◌, ℕ, zero, suc, ◌+◌, ◌-◌, ◌*◌, ◌%◌, List, [], ◌∷◌, ◌++◌, map, length, sum_by, get_or, Some, ℤ, pos, refl, sym, ap, ◌∙◌, subst, eq-eqb, append_assoc, arith}
+use Rattle.std.proofs.Common.{◌≡◌, ◌≢◌, ◌<◌, ◌≤◌, ℕ, zero, suc, ◌+◌, ◌-◌, ◌*◌, ◌%◌, List, [], ◌∷◌, ◌++◌, map, length, Some, ℤ, pos, refl, sym, ap, ◌∙◌, subst, eq-eqb, append_assoc, arith}
 use Rattle.std.specs.List.{All, AllPairs, Contains, range_with_len, flat_map}
-use Rattle.std.specs.Prelude.{slice_get, Bool, true, false, ◌==◌, if◌then◌else◌}
+use Rattle.std.specs.Prelude.{Bool, true, false, ◌==◌, if◌then◌else◌}
 use Rattle.std.proofs.lemmas.Int.{ints}
 use Rattle.std.proofs.lemmas.Bool.{ne_eqb}
 use Rattle.std.proofs.lemmas.List.{append-nil}
 use Rattle.std.proofs.lemmas.List.Sums.{sum_by-cons}
-use Rattle.std.proofs.lemmas.List.Elements.{All-append, All-cons, All-map, All-from_get_or, All-from_recursion}
+use Rattle.std.proofs.lemmas.List.Elements.{All-append, All-map, All-from_get_or, All-from_recursion}
 use Rattle.std.proofs.lemmas.List.FromFn.{length-range_with_len, get_or-range_with_len, map-range_with_len_more}
 use Rattle.std.proofs.lemmas.List.Kept.{AllPairs-cons}
 use Rattle.std.proofs.lemmas.Option.{get_or_from_slice_get}
@@ -18,7 +18,7 @@ use Rattle.dri_base.specs.declared.command.Command.TheVariants as Command_is
 use Rattle.dri_base.specs.declared.command.Item.{Item}
 use Rattle.dri_base.specs.declared.scene.ClientScript.{ClientScript}
 use Rattle.dri_base.specs.declared.scene.Window.{Window}
-use Rattle.dri_base.specs.Ranges.{InRange, IsWithin, IsPlace, ChangeInRange, ChangesInRange, ClientInRange, ClientsInRange, CommandInRange, CommandsInRange, DiesLast, TextureInRange, TexturesInRange, WindowInRange, WindowsInRange, TriangleInRange, command_count, client_numbers, owner_of, texture_numbers, window_numbers}
+use Rattle.dri_base.specs.Ranges.{InRange, IsWithin, ChangeInRange, ChangesInRange, ClientInRange, ClientsInRange, CommandInRange, DiesLast, TextureInRange, TexturesInRange, WindowInRange, WindowsInRange, TriangleInRange, command_count, owner_of, window_numbers}
 use Rattle.dri_base.proofs.PlaneLists.{length-first_pixels}
 use Rattle.dri_scene.specs.Generator.{change, change_of, changed_window, client, frame_commands, first_settings, far_triangle, from_one, generator, grey, near_triangle, script_commands, texture, window}
 
@@ -41,8 +41,8 @@ one_more_list f k first old new so_far added =
 all_counted : (P : ℕ → Type 0) (a n : ℕ) → ((k : ℕ) → a ≤ k → k < a + n → P k) → All P (range_with_len a n)
 all_counted P a n each =
     All-from_get_or P (range_with_len a n) 0 (λ i below.
-      let within : i < n = subst (λ m. i < m) (length-range_with_len a n) below in
-      subst P (sym (get_or-range_with_len a n i 0 within)) (each (a + i) (omega arith) (omega (arith, within))))
+    let within : i < n = subst (λ m. i < m) (length-range_with_len a n) below in
+    subst P (sym (get_or-range_with_len a n i 0 within)) (each (a + i) (omega arith) (omega (arith, within))))
 
 -- and of each thing that is made of one
 all_made : {A : Type 0} (P : A → Type 0) (f : ℕ → A) (n : ℕ) → ((k : ℕ) → IsWithin 1 n k → P (f k)) → All P (map f (from_one n))
@@ -78,31 +78,35 @@ is_counted n c within = counted_from 1 (c - 1) n c (omega (arith, within)) (omeg
 -- each window
 window_ranged : (w : ℕ) → IsWithin 1 32 w → WindowInRange (window w)
 window_ranged w within = record {
-    numbered = omega (arith, within);
-    left = (omega (arith, ints), omega (arith, ints, mod-lt (61 * w) {m = 320} (omega arith)));
-    top = (omega (arith, ints), omega (arith, ints, mod-lt (43 * w) {m = 200} (omega arith)));
-    wide = omega arith;
-    high = omega arith;
-    owned = omega (arith, within) }
+  numbered = omega (arith, within);
+  left = (omega (arith, ints), omega (arith, ints, mod-lt (61 * w) {m = 320} (omega arith)));
+  top = (omega (arith, ints), omega (arith, ints, mod-lt (43 * w) {m = 200} (omega arith)));
+  wide = omega arith;
+  high = omega arith;
+  owned = omega (arith, within);
+}
 
 windows_ranged : (n : ℕ) → IsWithin 1 32 n → WindowsInRange (map window (from_one n))
 windows_ranged n few = record {
-    each = all_made WindowInRange window n (λ w within. window_ranged w (omega (arith, within, few)));
-    apart = subst (AllPairs ◌≢◌) (sym (numbers_kept window (λ w. w.number) 1 n (λ k. refl))) (rising ◌≢◌ 1 n (λ i j up e. omega (arith, up, e))) }
+  each = all_made WindowInRange window n (λ w within. window_ranged w (omega (arith, within, few)));
+  apart = subst (AllPairs ◌≢◌) (sym (numbers_kept window (λ w. w.number) 1 n (λ k. refl))) (rising ◌≢◌ 1 n (λ i j up e. omega (arith, up, e)));
+}
 
 -- each texture
 texture_ranged : (c t : ℕ) → IsWithin 1 3 t → TextureInRange 65536 (texture c t)
 texture_ranged c t within = record {
-    numbered = omega (arith, within);
-    wide = omega arith;
-    high = omega arith;
-    whole = length-first_pixels 64 (grey c t) 4096;
-    fits = subst (λ m. m ≤ 65536) (sym (length-first_pixels 64 (grey c t) 4096)) (omega arith) }
+  numbered = omega (arith, within);
+  wide = omega arith;
+  high = omega arith;
+  whole = length-first_pixels 64 (grey c t) 4096;
+  fits = subst (λ m. m ≤ 65536) (sym (length-first_pixels 64 (grey c t) 4096)) (omega arith);
+}
 
 textures_ranged : (c : ℕ) → TexturesInRange 65536 (map (texture c) (from_one 3))
 textures_ranged c = record {
-    each = all_made (TextureInRange 65536) (texture c) 3 (texture_ranged c);
-    rising = subst (AllPairs ◌<◌) (sym (numbers_kept (texture c) (λ t. t.number) 1 3 (λ k. refl))) (rising ◌<◌ 1 3 (λ i j up. up)) }
+  each = all_made (TextureInRange 65536) (texture c) 3 (texture_ranged c);
+  rising = subst (AllPairs ◌<◌) (sym (numbers_kept (texture c) (λ t. t.number) 1 3 (λ k. refl))) (rising ◌<◌ 1 3 (λ i j up. up));
+}
 
 -- each command
 named_texture : (f : ℕ) → IsWithin 1 3 ((f - 1) % 3 + 1)
@@ -131,15 +135,17 @@ dies_last commands none k before die = none k Command_is.Die (omega (arith, befo
 -- each client
 client_ranged : (n c : ℕ) → IsWithin 1 32 n → IsWithin 1 n c → ClientInRange (map window (from_one n)) 65536 (client c)
 client_ranged n c few within = record {
-    numbered = omega (arith, few, within);
-    owns = owned_from 1 (c - 1) n c (omega (arith, within)) (omega (arith, within));
-    textured = textures_ranged c;
-    commanded = record { each = subst (λ numbers. All (CommandInRange numbers) (script_commands c)) (sym (numbers_kept (texture c) (λ t. t.number) 1 3 (λ k. refl))) (commands_each c); last = dies_last (script_commands c) (none_dies c) } }
+  numbered = omega (arith, few, within);
+  owns = owned_from 1 (c - 1) n c (omega (arith, within)) (omega (arith, within));
+  textured = textures_ranged c;
+  commanded = record { each = subst (λ numbers. All (CommandInRange numbers) (script_commands c)) (sym (numbers_kept (texture c) (λ t. t.number) 1 3 (λ k. refl))) (commands_each c); last = dies_last (script_commands c) (none_dies c) };
+}
 
 clients_ranged : (n : ℕ) → IsWithin 1 32 n → ClientsInRange (map window (from_one n)) 65536 (map client (from_one n))
 clients_ranged n few = record {
-    each = all_made (ClientInRange (map window (from_one n)) 65536) client n (λ c within. client_ranged n c few within);
-    rising = subst (AllPairs ◌<◌) (sym (numbers_kept client (λ c. c.number) 1 n (λ k. refl))) (rising ◌<◌ 1 n (λ i j up. up)) }
+  each = all_made (ClientInRange (map window (from_one n)) 65536) client n (λ c within. client_ranged n c few within);
+  rising = subst (AllPairs ◌<◌) (sym (numbers_kept client (λ c. c.number) 1 n (λ k. refl))) (rising ◌<◌ 1 n (λ i j up. up));
+}
 
 -- a client has 103 commands
 commands_counted : (a n : ℕ) → command_count (map client (range_with_len a n)) ≡ n * 103
@@ -157,8 +163,10 @@ change_of_ranged windows w i there within = by_turn (i % 4 == 1) (i % 4 == 2) (i
   where
     x : ℤ
     x = pos (53 * i % 320)
+
     y : ℤ
     y = pos (29 * i % 200)
+
     by_turn : (first second third : Bool) → ChangeInRange windows (if first then Change_is.Raise w else (if second then Change_is.Move w x y else (if third then Change_is.Lower w else Change_is.Resize w (200 + i) (150 + i))))
     by_turn true second third = there
     by_turn false true third = (there, (omega (arith, ints), omega (arith, ints, mod-lt (53 * i) {m = 320} (omega arith))), (omega (arith, ints), omega (arith, ints, mod-lt (29 * i) {m = 200} (omega arith))))
@@ -167,19 +175,21 @@ change_of_ranged windows w i there within = by_turn (i % 4 == 1) (i % 4 == 2) (i
 
 changes_ranged : (n : ℕ) → IsWithin 1 32 n → ChangesInRange (window_numbers (map window (from_one n))) (map (change n) (from_one 40))
 changes_ranged n few = record {
-    few = omega arith;
-    each = subst (λ numbers. All (ChangeInRange numbers) (map (change n) (from_one 40))) (sym (numbers_kept window (λ w. w.number) 1 n (λ k. refl)))
-        (all_made (ChangeInRange (from_one n)) (change n) 40 (λ i within. change_of_ranged (from_one n) (changed_window n i) i (window_changed n i (omega (arith, few))) within)) }
+  few = omega arith;
+  each = subst (λ numbers. All (ChangeInRange numbers) (map (change n) (from_one 40))) (sym (numbers_kept window (λ w. w.number) 1 n (λ k. refl)))
+      (all_made (ChangeInRange (from_one n)) (change n) 40 (λ i within. change_of_ranged (from_one n) (changed_window n i) i (window_changed n i (omega (arith, few))) within));
+}
 
 pub generator_in_range : (n : ℕ) → IsWithin 1 32 n → InRange (generator n)
 unfolding generator
 generator_in_range n few = record {
-    card = record { wide = omega arith; high = omega arith; regions = omega arith; sized = refl };
-    windowed = windows_ranged n few;
-    scripted = clients_ranged n few;
-    few = subst (λ m. m ≤ 100000) (sym (commands_counted 1 n)) (omega (arith, few));
-    changed = changes_ranged n few;
-    scheduled = record { few = omega arith; each = λ k d below. absurd (omega (arith, below)); once = λ i j d up below. absurd (omega (arith, below)) } }
+  card = record { wide = omega arith; high = omega arith; regions = omega arith; sized = refl };
+  windowed = windows_ranged n few;
+  scripted = clients_ranged n few;
+  few = subst (λ m. m ≤ 100000) (sym (commands_counted 1 n)) (omega (arith, few));
+  changed = changes_ranged n few;
+  scheduled = record { few = omega arith; each = λ k d below. absurd (omega (arith, below)); once = λ i j d up below. absurd (omega (arith, below)) };
+}
 
 -- the scene of these parts
 pub of_parts : (n : ℕ) (ws : List Window) (cs : List ClientScript) (changes : List Change) (turns : List Item) → ws ≡ map window (from_one n) → cs ≡ map client (from_one n) → changes ≡ map (change n) (from_one 40) → turns ≡ []

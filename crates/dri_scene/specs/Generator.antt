@@ -2,7 +2,6 @@
 -- the server changes the windows forty times.
 use Rattle.std.specs.Prelude.{ℕ, ◌+◌, ◌-◌, ◌*◌, ◌%◌, ℤ, pos, List, [], ◌∷◌, ◌++◌, map, true, ◌==◌, if◌then◌else◌, Some}
 use Rattle.std.specs.List.{range_with_len, flat_map}
-use Rattle.dri_base.specs.declared.colour.Rgba.{Rgba}
 use Rattle.dri_base.specs.declared.command.Change.{Change}
 use Rattle.dri_base.specs.declared.command.Change.TheVariants as Change_is
 use Rattle.dri_base.specs.declared.command.Command.{Command}
@@ -92,5 +91,13 @@ change n i = change_of (changed_window n i) i
 -- the scene of n clients; no schedule, so all is done in rounds
 unfoldable pub generator : ℕ → Scene
 generator n = record {
-    width = 640; height = 480; root = record { r = 32; g = 48; b = 64 }; regions = 16; region_size = 4096;
-    windows = map window (from_one n); clients = map client (from_one n); changes = map (change n) (from_one 40); turns = [] }
+  width = 640;
+  height = 480;
+  root = record { r = 32; g = 48; b = 64 };
+  regions = 16;
+  region_size = 4096;
+  windows = map window (from_one n);
+  clients = map client (from_one n);
+  changes = map (change n) (from_one 40);
+  turns = [];
+}

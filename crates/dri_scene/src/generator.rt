@@ -8,14 +8,15 @@ ghost use Rattle.dri_base.specs.Planes.{plane};
 ghost use Rattle.dri_scene.specs.Generator.{change, change_of, changed_window, client, far, far_triangle, first_settings, frame_commands, from_one, generator, grey, near, near_triangle, script_commands, texture, window};
 
 use dri_base::{
-    Bytes, Change, Changes, ClientScript, Clients, Command, Commands, DepthFunc, Items, OutOfMemory,
-    Rgb, Rgba, Scene, Sequence, Setting, TexFormat, TexMode, TexShape, Texture, Textures, Triangle,
-    Vertex, Window, Windows,
+    Bytes, Change, Changes, ClientScript, Clients, Command, Commands, DepthFunc, Items,
+    OutOfMemory, Rgb, Rgba, Scene, Sequence, Setting, TexFormat, TexMode, TexShape, Texture,
+    Textures, Triangle, Vertex, Window, Windows,
 };
 use std::alloc::Global;
 
 /// The screen's sides.
 const SCREEN_WIDTH: u32 = 640;
+
 const SCREEN_HEIGHT: u32 = 480;
 
 /// The root's colour.
@@ -27,22 +28,27 @@ const ROOT: Rgb = Rgb {
 
 /// The regions of texture memory, and a region's bytes.
 const REGIONS: u32 = 16;
+
 const REGION_SIZE: u32 = 4096;
 
 /// Windows are spread over places below these, and are moved within them.
 const PLACES_ACROSS: u32 = 320;
+
 const PLACES_DOWN: u32 = 200;
 
 /// A window's sides.
 const WINDOW_WIDTH: u32 = 280;
+
 const WINDOW_HEIGHT: u32 = 220;
 
 /// The right and the lower edge of a window in sixteenths of a pixel, as a vertex has them.
 const RIGHT: i32 = 4480;
+
 const BOTTOM: i32 = 3520;
 
 /// How many textures each client has, and their sides.
 const TEXTURES: u32 = 3;
+
 const TEXTURE_SIDE: u32 = 64;
 
 /// The last sixteenth of a texture's column or row.
@@ -59,6 +65,7 @@ const CHANGES: u32 = 40;
 
 /// The depth of the far triangle and of the near one.
 const FAR: u16 = 1000;
+
 const NEAR: u16 = 500;
 
 /// As deep as can be.
