@@ -1,5 +1,6 @@
 -- A plane of colours and a plane of depths as one plane of pairs.
-use Rattle.std.proofs.Common.{◌≡◌, ℕ, ◌<◌, Bool, true, false, if◌then◌else◌, Option, Some, None, refl, sym, ap, ◌∙◌}
+use Rattle.std.proofs.Common.{◌≡◌, ℕ, ◌<◌, Bool, true, false, if◌then◌else◌, Some, refl, sym, ap, ◌∙◌}
+use Rattle.std.proofs.lemmas.Option.{same_Some}
 use Rattle.dri_base.specs.declared.colour.Rgb.{Rgb}
 use Rattle.dri_base.specs.declared.colour.Pixel.{Pixel}
 use Rattle.dri_base.specs.Planes.{plane, at}
@@ -30,15 +31,9 @@ pairs_written back back' depth depth' places pixel f sb sd becomes deepens holds
   depths = part_written (λ p. p.depth) depth depth' places pixel f sd.0 sd.1 deepens holds.depths;
 }
 
-some_same : {A : Type 0} (x y : A) → Some x ≡ Some y → x ≡ y
-some_same {A = A} x y e = ap (λ o. from o) e where
-  from : Option A → A
-  from (Some v) = v
-  from None = x
-
 -- what a plane has at a place
 read : {A : Type 0} (g : Grid A) (f : ℕ → ℕ → A) (x y : ℕ) (v : A) → x < g.width → y < g.height → g.pixels ≡ plane g.width g.height f → at g.width g.pixels x y ≡ Some v → v ≡ f x y
-read g f x y v column row holds is = some_same v (f x y) (sym is ∙ ap (λ ps. at g.width ps x y) holds ∙ plane_at g.width g.height f x y column row)
+read g f x y v column row holds is = same_Some v (f x y) (sym is ∙ ap (λ ps. at g.width ps x y) holds ∙ plane_at g.width g.height f x y column row)
 
 -- the pair at a place
 pub pair_read : (back : Grid Rgb) (depth : Grid ℕ) (f : ℕ → ℕ → Pixel) (x y : ℕ) (colour : Rgb) (z : ℕ) → (x < back.width) × (x < depth.width) → (y < back.height) × (y < depth.height)

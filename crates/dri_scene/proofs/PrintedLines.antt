@@ -56,7 +56,8 @@ use Rattle.dri_scene.specs.Stored.{IsColour, IsColourAlpha, IsCorner, IsStoredCo
 use Rattle.dri_scene.specs.Texts.{colour_word, colour_alpha_word, mapped_word, format_word, shade_word, depth_func_word, switch_word, blend_word, tex_mode_word, wrap_word, setting_words, corner_words, command_words, window_words, texture_words, change_words, item_words, hex}
 use Rattle.dri_words.proofs.Splitting.{split_last}
 use Rattle.dri_words.proofs.Written.{unsigned_read, number_there}
-use Rattle.dri_scene.proofs.PrintedWords.{signed_back, signed_kept, kept, decimal_word, colour_read, colour_alpha_read, image_digits, image_size}
+use Rattle.dri_words.proofs.PrintedNumbers.{decimal_word, kept}
+use Rattle.dri_scene.proofs.PrintedWords.{signed_back, signed_kept, colour_read, colour_alpha_read, image_digits, image_size}
 use Rattle.dri_scene.specs.Lines.{item_in as item_line_in}
 
 -- a word whose first byte is below the letters

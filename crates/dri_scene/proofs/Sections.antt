@@ -51,7 +51,8 @@ use Rattle.dri_scene.specs.Texts.{scene_lines, scene_text, head_lines, screen_wo
 use Rattle.dri_scene.proofs.Numbers.{found_among, is_found, not_found}
 use Rattle.dri_words.proofs.Splitting.{is_word}
 use Rattle.dri_words.proofs.Written.{first_above}
-use Rattle.dri_scene.proofs.PrintedWords.{decimal_word, signed_word, colour_is_word, colour_alpha_is_word, image_is_word, image_back, image_size}
+use Rattle.dri_words.proofs.PrintedNumbers.{decimal_word}
+use Rattle.dri_scene.proofs.PrintedWords.{signed_word, colour_is_word, colour_alpha_is_word, image_is_word, image_back, image_size}
 use Rattle.dri_base.proofs.RegionSizes.{region_size_within}
 use Rattle.dri_scene.proofs.PrintedLines.{IsWritable, IsWritableCommand, written_command, command_read, client_read, end_read, change_read, item_read, server_read, turns_read, IsNamed, title_read, screen_read, heap_read, window_read, texture_read}
 use Rattle.dri_scene.proofs.ReadBack.{IsPlain, Leads_to, leads_on, spelled, stepped}

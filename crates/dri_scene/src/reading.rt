@@ -14,20 +14,12 @@ use crate::head_form::form_of;
 use crate::line::{Line, line_in};
 use crate::place::{Place, is_in_client, place_after};
 use dri_base::{
-    Bytes, Change, Changes, ClientScript, Clients, Command, Commands, Item, Items, OutOfMemory,
-    Rgb, Scene, Setting, TexShape, Texture, Textures, Window, Windows,
+    Bytes, Change, Changes, ClientScript, Clients, Command, Commands, Item, Items, MOST_CHANGES,
+    MOST_COMMANDS, MOST_ITEMS, OutOfMemory, Rgb, Scene, Setting, TexShape, Texture, Textures,
+    Window, Windows,
 };
 use dri_words::{Reason, is_passed_over};
 use std::alloc::Global;
-
-/// The most commands that all clients together may have.
-const MOST_COMMANDS: u32 = 100_000;
-
-/// The most changes.
-const MOST_CHANGES: usize = 4_096;
-
-/// The most items of a schedule.
-const MOST_ITEMS: usize = 1_000_000;
 
 /// A scene as far as it was read: the place in its text, the client's block that is being read, how many commands all
 /// clients have together, and the numbers of the last client and of its last texture, 0 where there is none.
@@ -222,7 +214,7 @@ fn with_command(reading: &mut Reading, command: Command) -> Result<(), Stop>
     if !names_textures(reading.script.textures.as_slice(), &command) {
         return Err(Stop::Refused(Reason::Unknown));
     }
-    if MOST_COMMANDS <= reading.commands {
+    if MOST_COMMANDS <= reading.commands as usize {
         return Err(Stop::Refused(Reason::Limit));
     }
     reading.script.commands.push(command)?;
