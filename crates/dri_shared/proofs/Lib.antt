@@ -11,4 +11,3 @@ pub mod Inside
 pub mod Bindings
 pub mod Opening
 pub mod Loading
-pub mod Examples
