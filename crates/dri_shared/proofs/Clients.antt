@@ -84,18 +84,3 @@ copy_stays s w c copy clips card is current wide high (pos x) (pos y) e =
 copy_stays s w c copy clips card is current wide high (pos x) (negsuc y) e = sym (is (pos x) (negsuc y)) ∙ e
 copy_stays s w c copy clips card is current wide high (negsuc x) (pos y) e = sym (is (negsuc x) (pos y)) ∙ e
 copy_stays s w c copy clips card is current wide high (negsuc x) (negsuc y) e = sym (is (negsuc x) (negsuc y)) ∙ e
-
--- the card of a scene is a screen
-pub card_screen : (s : Scene) (card : Contents) → InRange s → HaveSides card s.width s.height → IsScreen card
-card_screen s card good sides = record {
-  sides = record {
-    front_width = refl;
-    front_height = refl;
-    back_width = sides.back_width ∙ sym sides.front_width;
-    back_height = sides.back_height ∙ sym sides.front_height;
-    depth_width = sides.depth_width ∙ sym sides.front_width;
-    depth_height = sides.depth_height ∙ sym sides.front_height;
-  };
-  wide = rw sides.front_width good.card.wide.1;
-  high = rw sides.front_height good.card.high.1;
-}

@@ -75,14 +75,6 @@ same_numbers s journal n = by_case (has_number s.windows n) refl
 pub number_there : (windows stack : List Window) (n : ℕ) → HaveSameNumbers windows stack → has_number windows n ≡ true → Contains (window_numbers stack) n
 number_there windows stack n same e = has_contains stack n (has_some stack n (sym (same n) ∙ e))
 
--- a number that isn't there has no drawable
-pub shown_none : (windows stack : List Window) (stamps : ℕ → ℕ) (n : ℕ) → HaveSameNumbers windows stack → has_number windows n ≡ false → record { stamp = 0; flags = 0 } ≡ drawable_of stack stamps n
-shown_none windows stack stamps n same e = none (window_in stack n) (sym (same n) ∙ e)
-  where
-    none : (o : Option Window) → is_some o ≡ false → record { stamp = 0; flags = 0 } ≡ shown_with (stamps n) o
-    none None e = refl
-    none (Some w) e = absurd (true≢false e)
-
 -- flags are 0 or 1
 pub shown_flags : (stack : List Window) (stamps : ℕ → ℕ) → All (λ d. d.flags ≤ 1) (drawables_of stack stamps)
 shown_flags stack stamps = All-map (λ (d : Drawable). d.flags ≤ 1) (drawable_of stack stamps) (range_with_len 0 256) (λ k d l. one (stamps _) (window_in stack _))

@@ -41,9 +41,3 @@ apart ns i j n m rising at_i at_j ne same = by_order (nat_lt i j) refl
     by_order false o =
         let lt : j < i = grind (arith, nat_tests, ne) in
         omega (arith, rising j i 0 lt (slice_get_within ns i n at_i), get_or_from_slice_get ns i n 0 at_i, get_or_from_slice_get ns j m 0 at_j, same)
-
--- the number of the script at a place
-pub number_read : (ps : List ClientScript) (i d : ℕ) (p : ClientScript) → i < length ps → p ≡ get_or ps i p → get_or (client_numbers ps) i d ≡ p.number
-number_read ps i d p below is =
-    get_or_from_slice_get (client_numbers ps) i p.number d
-    (slice_get-map (λ (q : ClientScript). q.number) ps i ∙ ap (option_map (λ (q : ClientScript). q.number)) (slice_get_read ps (length ps) i p refl below is))

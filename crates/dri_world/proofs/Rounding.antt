@@ -23,6 +23,9 @@ use Rattle.dri_core.proofs.Rounds.{after_append, played_append}
 use Rattle.dri_core.proofs.RoundsEnd.{more_rounds}
 use Rattle.dri_core.proofs.RunLaws.{whole_where_passed}
 use Rattle.dri_world.specs.Courses.{Course, GoesOn, IsPlayedIn, IsPlayedOn, IsSound, LeavesLess, MayTake, core_of, is_move, turned}
+use Rattle.dri_driver.specs.Clients.{ClientState}
+use Rattle.dri_world.specs.Holding.{IsHeld}
+use Rattle.dri_world.specs.declared.site.Site.{Site}
 use Rattle.dri_world.proofs.Places.{some_one}
 use Rattle.dri_world.specs.declared.turned.Turned.{Turned}
 
@@ -166,6 +169,12 @@ turn_falls old new a sound on = by_event (turn old.scene (core_of old) a) refl o
         let e = core_on old new (x ∷ []) g in
         let falls = turn_less old.scene (core_of old) (well_formed old.scene sound.good) going a x h in
         subst (λ t. work_left t (core_of new) + 1 ≤ work_left old.scene (core_of old)) (sym g.scene) (subst (λ k. work_left old.scene k + 1 ≤ work_left old.scene (core_of old)) (sym e) (omega (arith, falls)))
+
+-- a turn leaves less, also in a part of the world that is held
+pub turned_less : (s : Scene) (es : List Event) (site : Site) (ks : List ClientState) (old new : Course) (a : ℕ) (t : Turned) → IsHeld s es site ks → record { scene = s; events = es } ≡ old →
+    t ≡ turned (turn old.scene (core_of old) a) → GoesOn old new (one_event (turn old.scene (core_of old) a)) → LeavesLess old new (is_move t)
+turned_less s es site ks old new a t held view told made =
+    subst (λ (x : Turned). LeavesLess old new (is_move x)) (sym told) (turn_falls old new a (subst IsSound view (record { good = held.good; run = held.run })) made)
 
 pub less_less : (a b c : Course) (x y : Bool) → LeavesLess a b x → LeavesLess b c y → LeavesLess a c (x || y)
 less_less a b c true y first second = omega (arith, first, second)
