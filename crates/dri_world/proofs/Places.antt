@@ -9,9 +9,6 @@ use Rattle.std.specs.Option.{option_map}
 use Rattle.dri_base.specs.Ranges.{client_numbers}
 use Rattle.dri_base.specs.declared.scene.ClientScript.{ClientScript}
 
-pub some_one : {A : Type 0} {x y : A} → Some x ≡ Some y → x ≡ y
-some_one e = cc
-
 -- a list has what stands at a place
 pub stands : (ns : List ℕ) (i n : ℕ) → slice_get ns i ≡ Some n → Contains ns n
 stands ns i n e = (i, slice_get_within ns i n e, get_or_from_slice_get ns i n n e)

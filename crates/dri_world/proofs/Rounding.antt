@@ -4,7 +4,7 @@ use Rattle.std.specs.Prelude.{◌↔◌, ◌==◌, ◌&&◌, ◌||◌, is_none, 
 use Rattle.std.proofs.lemmas.Bool.{true≢false}
 use Rattle.std.proofs.lemmas.Bool.Decides.{nat_tests}
 use Rattle.std.proofs.lemmas.List.{append-nil, take_more}
-use Rattle.std.proofs.lemmas.Option.{get_or_from_slice_get, slice_get_within}
+use Rattle.std.proofs.lemmas.Option.{get_or_from_slice_get, slice_get_within, same_Some}
 use Rattle.dri_base.specs.Ranges.{InRange, ItemInRange, client_numbers}
 use Rattle.dri_base.specs.Scenes.{kills_in}
 use Rattle.dri_base.specs.declared.command.Item.{Item}
@@ -26,7 +26,6 @@ use Rattle.dri_world.specs.Courses.{Course, GoesOn, IsPlayedIn, IsPlayedOn, IsSo
 use Rattle.dri_driver.specs.Clients.{ClientState}
 use Rattle.dri_world.specs.Holding.{IsHeld}
 use Rattle.dri_world.specs.declared.site.Site.{Site}
-use Rattle.dri_world.proofs.Places.{some_one}
 use Rattle.dri_world.specs.declared.turned.Turned.{Turned}
 
 -- the core after more events
@@ -231,12 +230,12 @@ whole_by w sound pass = whole_where_passed w.scene w.events sound.good sound.run
 -- an item of the schedule may be taken
 kill_listed : (items : List Item) (i c : ℕ) → slice_get items i ≡ Some (Kill c) → kills_in items c ≡ true
 kill_listed [] i c e = absurd (let l = slice_get_within {A = Item} [] i (Kill c) e in omega (arith, l))
-kill_listed (Turn a ∷ items) zero c e = absurd (different (some_one e))
+kill_listed (Turn a ∷ items) zero c e = absurd (different (same_Some _ _ e))
   where
     different : Turn a ≡ Kill c → ⊥
     different h = cc
 kill_listed (Turn a ∷ items) (suc i) c e = kill_listed items i c e
-kill_listed (Kill d ∷ items) zero c e = let same : d ≡ c = victim_same (some_one e) in rw same (itself c (kills_in items c))
+kill_listed (Kill d ∷ items) zero c e = let same : d ≡ c = victim_same (same_Some _ _ e) in rw same (itself c (kills_in items c))
   where
     victim_same : Kill d ≡ Kill c → d ≡ c
     victim_same h = cc
