@@ -5,3 +5,4 @@ pub mod BandWalks
 pub mod Regions
 pub mod Arrangement
 pub mod Placed
+pub mod Bounds

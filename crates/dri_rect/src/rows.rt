@@ -43,7 +43,7 @@ pub fn lesser(first: i32, second: i32) -> i32
 }
 
 /// The greater of two places.
-fn greater(first: i32, second: i32) -> i32
+pub fn greater(first: i32, second: i32) -> i32
     ensures { result ≡ greater_of first second }
 {
     if first < second { second } else { first }
