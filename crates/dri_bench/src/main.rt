@@ -2,10 +2,12 @@
 #![tactic(auto)]
 
 mod contend;
+mod drawing;
 mod opened;
 mod pairs;
 mod tally;
 
+use drawing::Work;
 use std::process::ExitCode;
 use std::{env, io};
 
@@ -20,6 +22,7 @@ const NO_MEMORY: u8 = 7;
 enum Part {
     Pairs(u32),
     Contend(u32),
+    Drawing(Work, u32),
 }
 
 /// The part that two words name, a part and a number; `None` where they are of no form.
@@ -31,7 +34,7 @@ fn part_of(words: &[String]) -> Option<Part> {
     match words[0].as_str() {
         "pairs" => Some(Part::Pairs(times)),
         "contend" => Some(Part::Contend(times)),
-        _ => None,
+        name => Some(Part::Drawing(Work::of(name)?, times)),
     }
 }
 
@@ -49,12 +52,13 @@ fn main(rt: HostRuntime) -> io::Result<ExitCode> {
     let words = words_of(&rt)?;
     for words in words.as_slice().chunks(2) {
         let Some(part) = part_of(words) else {
-            eprintln!(rt; "usage: dri_bench [pairs|contend times]..")?;
+            eprintln!(rt; "usage: dri_bench [part times]..")?;
             return Ok(ExitCode::from(USAGE));
         };
         let left = match part {
             Part::Pairs(times) => pairs::run(&rt, rt.alloc(), times),
             Part::Contend(times) => contend::run(&rt, rt.alloc(), times),
+            Part::Drawing(work, times) => drawing::run(rt.alloc(), work, times),
         };
         let Some(left) = left else {
             return Ok(ExitCode::from(NO_MEMORY));
