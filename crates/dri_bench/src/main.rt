@@ -3,12 +3,14 @@
 
 mod boards;
 mod contend;
+mod drawing;
 mod opened;
 mod pairs;
 mod regions;
 mod tally;
 
 use crate::boards::Arrangement;
+use crate::drawing::Work;
 use crate::regions::Operation;
 use std::process::ExitCode;
 use std::{env, io};
@@ -24,6 +26,7 @@ const NO_MEMORY: u8 = 7;
 enum Part {
     Pairs(u32),
     Contend(u32),
+    Drawing(Work, u32),
     Regions(Operation, u32, u32, u32),
     Boards(Arrangement, u32, u32),
 }
@@ -71,7 +74,10 @@ fn part_of(words: &[String]) -> Option<Part> {
     match words[0].as_str() {
         "pairs" => Some(Part::Pairs(times)),
         "contend" => Some(Part::Contend(times)),
-        word => part_with_counts(word, times),
+        name => match Work::of(name) {
+            Some(work) => Some(Part::Drawing(work, times)),
+            None => part_with_counts(name, times),
+        },
     }
 }
 
@@ -90,13 +96,14 @@ fn main(rt: HostRuntime) -> io::Result<ExitCode> {
     for words in words.as_slice().chunks(2) {
         let Some(part) = part_of(words) else {
             eprintln!(rt;
-                "usage: dri_bench [PART TIMES].., with PART pairs, contend, unite:N:N, subtract:N:N, intersect:N:N, overlap:N or apart:N"
+                "usage: dri_bench [PART TIMES].., with PART pairs, contend, the name of a drawing, unite:N:N, subtract:N:N, intersect:N:N, overlap:N or apart:N"
             )?;
             return Ok(ExitCode::from(USAGE));
         };
         let left = match part {
             Part::Pairs(times) => pairs::run(&rt, rt.alloc(), times),
             Part::Contend(times) => contend::run(&rt, rt.alloc(), times),
+            Part::Drawing(work, times) => drawing::run(rt.alloc(), work, times),
             Part::Regions(operation, first, second, times) => {
                 regions::run(rt.alloc(), operation, first, second, times)
             }

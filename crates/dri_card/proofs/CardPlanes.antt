@@ -14,7 +14,7 @@ use Rattle.dri_plane.specs.Grids.{Grid, Becomes}
 use Rattle.dri_card.specs.Contents.{Contents, Holds}
 use Rattle.dri_card.specs.Drawing.{OnlyDrawn, after_triangle, after_triangles, covered_centres, drawn}
 use Rattle.dri_walk.specs.Clips.{covered_places}
-use Rattle.dri_card.specs.Alike.{pairs_same}
+use Rattle.dri_plane.specs.Alike.{pairs_same}
 
 -- one plane, where it is known what it shows
 pub shows_change : (old new : Grid Rgb) (change : (ℕ → ℕ → Rgb) → ℕ → ℕ → Rgb) (g : ℕ → ℕ → Rgb) → new.width ≡ old.width → new.height ≡ old.height → Becomes old new change

@@ -12,8 +12,8 @@ use crate::blending::Blending;
 use crate::colouring::{ColourRow, Colouring};
 use crate::depth_test::DepthTest;
 use crate::drawing::Drawing;
-use crate::surface::Painter;
 use dri_base::Pixel;
+use dri_plane::Painter;
 use dri_raster::{Channel, Runner, Setup};
 use std::marker::PhantomData;
 

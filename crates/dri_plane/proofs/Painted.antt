@@ -1,17 +1,16 @@
--- Places of the back and depth planes that are painted along a row.
-use Rattle.std.proofs.Common.{◌≡◌, ℕ, ◌+◌, ◌≤◌, Bool, true, false, ◌&&◌, ◌==◌, if◌then◌else◌, Option, Some, None, refl, ap, ◌∙◌, arith}
+-- Places of a plane of colours and one of depths that are painted along a row.
+use Rattle.std.proofs.Common.{◌≡◌, ℕ, ◌+◌, ◌*◌, ◌<◌, ◌≤◌, List, get_or, slice_set, Bool, true, false, ◌&&◌, ◌==◌, if◌then◌else◌, Option, Some, None, refl, ap, ◌∙◌, arith}
 use Rattle.std.proofs.lemmas.Bool.Decides.{nat_tests}
 use Rattle.std.proofs.lemmas.Bool.{eqb-true}
 use Rattle.dri_base.specs.declared.colour.Pixel.{Pixel}
 use Rattle.dri_base.specs.declared.colour.Rgb.{Rgb}
 use Rattle.dri_plane.specs.Grids.{Grid, is_place}
-use Rattle.dri_walk.specs.Surfaces.{in_row, left_by, run_painted}
-use Rattle.dri_card.specs.Contents.{HoldPairs}
-use Rattle.dri_card.specs.Alike.{pairs_same}
-
--- the pairs after one place is painted
-abbrev pub place_painted : (ℕ → Pixel → Option Pixel) → ℕ → ℕ → (ℕ → ℕ → Pixel) → ℕ → ℕ → Pixel
-place_painted paint x y f a b = if is_place x y a b then left_by (λ p. p) (paint a (f a b)) (f a b) else f a b
+use Rattle.dri_plane.specs.Runs.{HoldPairs, grid, in_row, left_by, place_painted, run_painted}
+use Rattle.dri_base.proofs.PlaneLists.{pixel_at}
+use Rattle.std.proofs.lemmas.Nat.{div-mul-add, mod-mul-add, mul-add-lt}
+use Rattle.dri_plane.proofs.Planes.{plane_put}
+use Rattle.dri_plane.proofs.PairPlanes.{pairs_written}
+use Rattle.dri_plane.specs.Alike.{pairs_same}
 
 -- a pair that is written where it is painted
 pub written_painted : (back : Grid Rgb) (depth : Grid ℕ) (x y : ℕ) (paint : ℕ → Pixel → Option Pixel) (under pixel : Pixel) (f : ℕ → ℕ → Pixel) → under ≡ f x y → Some pixel ≡ paint x under
@@ -64,3 +63,29 @@ run_more back depth paint y left x f from holds =
     by a b true false joined apart = joined _ _
     by a b false true joined apart = joined _ _
     by a b false false joined apart = joined _ _
+
+-- ---- two lists of rows
+-- the pair at a place of them
+pub pair_listed : (width height : ℕ) (colours : List Rgb) (depths : List ℕ) (f : ℕ → ℕ → Pixel) (x y place : ℕ) (c : Rgb) (z : ℕ) → place ≡ y * width + x → x < width → y < height
+    → HoldPairs (grid width height colours) (grid width height depths) f → record { colour = get_or colours place c; depth = get_or depths place z } ≡ f x y
+pair_listed width height colours depths f x y place c z at column row holds = λ i. record { colour = one i; depth = other i } where
+  inside : y * width + x < width * height
+  inside = mul-add-lt y width x height row column
+
+  one : get_or colours place c ≡ (f x y).colour
+  one = ap (λ k. get_or colours k c) at ∙ ap (λ l. get_or l (y * width + x) c) holds.colours ∙ pixel_at width (λ a b. (f a b).colour) (width * height) (y * width + x) c inside
+      ∙ (λ i. (f (mod-mul-add y width x column i) (div-mul-add y width x column i)).colour)
+
+  other : get_or depths place z ≡ (f x y).depth
+  other = ap (λ k. get_or depths k z) at ∙ ap (λ l. get_or l (y * width + x) z) holds.depths ∙ pixel_at width (λ a b. (f a b).depth) (width * height) (y * width + x) z inside
+      ∙ (λ i. (f (mod-mul-add y width x column i) (div-mul-add y width x column i)).depth)
+
+-- a pair that is written there
+pub pair_set : (width height : ℕ) (colours : List Rgb) (depths : List ℕ) (f : ℕ → ℕ → Pixel) (x y place : ℕ) (pixel : Pixel) → place ≡ y * width + x → x < width → y < height
+    → HoldPairs (grid width height colours) (grid width height depths) f
+    → HoldPairs (grid width height (slice_set colours place pixel.colour)) (grid width height (slice_set depths place pixel.depth)) (λ a b. if is_place x y a b then pixel else f a b)
+pair_set width height colours depths f x y place pixel at column row holds =
+    pairs_written (grid width height colours) (grid width height (slice_set colours place pixel.colour)) (grid width height depths) (grid width height (slice_set depths place pixel.depth)) (is_place x y) pixel f (refl, refl) (refl, refl)
+    (λ g was. ap (λ k. slice_set colours k pixel.colour) at ∙ ap (λ l. slice_set l (y * width + x) pixel.colour) was ∙ plane_put width height g x y pixel.colour column row)
+    (λ g was. ap (λ k. slice_set depths k pixel.depth) at ∙ ap (λ l. slice_set l (y * width + x) pixel.depth) was ∙ plane_put width height g x y pixel.depth column row)
+    holds

@@ -1,11 +1,11 @@
--- A lemma that the law of surfaces rests on.
+-- Pairs that are equal at each place.
 use Rattle.std.specs.Prelude.{◌≡◌, ℕ}
 use Rattle.std.proofs.Common.{ap, ◌∙◌}
 use Rattle.dri_base.specs.declared.colour.Rgb.{Rgb}
 use Rattle.dri_base.specs.declared.colour.Pixel.{Pixel}
 use Rattle.dri_plane.specs.Grids.{Grid}
 use Rattle.dri_base.proofs.PlaneLists.{plane_same}
-use Rattle.dri_card.specs.Contents.{HoldPairs}
+use Rattle.dri_plane.specs.Runs.{HoldPairs}
 
 -- pairs that are equal at each place
 pub pairs_same : (back : Grid Rgb) (depth : Grid ℕ) (f g : ℕ → ℕ → Pixel) → ((x y : ℕ) → f x y ≡ g x y) → HoldPairs back depth f → HoldPairs back depth g

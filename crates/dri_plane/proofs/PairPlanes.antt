@@ -6,7 +6,7 @@ use Rattle.dri_base.specs.declared.colour.Pixel.{Pixel}
 use Rattle.dri_base.specs.Planes.{plane, at}
 use Rattle.dri_plane.specs.Grids.{Grid, Becomes}
 use Rattle.dri_base.proofs.PlaneLists.{plane_same, plane_at}
-use Rattle.dri_card.specs.Contents.{HoldPairs}
+use Rattle.dri_plane.specs.Runs.{HoldPairs}
 
 -- a part of a pair that is written where so
 part_if : {A : Type 0} (part : Pixel → A) (b : Bool) (new old : Pixel) → (if b then part new else part old) ≡ part (if b then new else old)
