@@ -2,7 +2,7 @@
 use Rattle.std.specs.Prelude.{◌≡◌, ◌≢◌, ◌≤◌, ◌⊎◌, ℕ, ◌+◌, Bool, true, false, None, Contains}
 use Rattle.dri_base.specs.Ranges.{client_numbers}
 use Rattle.dri_base.specs.declared.journal.Entry.{Entry}
-use Rattle.dri_core.specs.Phases.{Phase, Out, Old, In, Over, Ask, Asking, Ended, Dead}
+use Rattle.dri_core.specs.Phases.{Phase, Out, Asking, Ended, Dead}
 use Rattle.dri_core.specs.Runs.{context_of}
 use Rattle.dri_core.specs.Worlds.{World}
 use Rattle.dri_hwlock.specs.Entries.{Adds}
@@ -18,10 +18,7 @@ is_at_rest Out = true
 is_at_rest Asking = true
 is_at_rest Ended = true
 is_at_rest Dead = true
-is_at_rest Old = false
-is_at_rest In = false
-is_at_rest Over = false
-is_at_rest Ask = false
+is_at_rest phase = false
 
 -- the client of this number is one of the scene, and fits the journal
 pub record IsSeated (v : SharedState) (k : ClientState) (c : ℕ) : Type 0 where
