@@ -6,7 +6,9 @@ use Rattle.dri_core.specs.Phases.{Phase, Out, Asking, Ended, Dead}
 use Rattle.dri_core.specs.Runs.{context_of}
 use Rattle.dri_core.specs.Worlds.{World}
 use Rattle.dri_hwlock.specs.Entries.{Adds}
+use Rattle.dri_shared.specs.Sides.{IsSameSide, client_at, value_at}
 use Rattle.dri_shared.specs.States.{SharedState, Added, world_of}
+use Rattle.dri_shared.specs.declared.client_side.ClientSide.{ClientSide}
 use Rattle.dri_driver.specs.Clients.{ClientState}
 use Rattle.dri_driver.specs.Fits.{Fits, IsSameClient}
 use Rattle.dri_threads.specs.declared.session.Entrance.{Entrance}
@@ -42,6 +44,11 @@ pub record Works (c : ℕ) (v w : SharedState) (k l : ClientState) : Type 0 wher
   pub grows : Grows (c + 1) v w
   pub seated : IsSeated w l c
   pub same : IsSameClient k l
+
+-- the client of a side has worked in it, and the side is the same
+pub record WorksIn (before after : ClientSide) (k l : ClientState) : Type 0 where
+  pub works : Works (client_at before) (value_at before) (value_at after) k l
+  pub same : IsSameSide before after
 
 -- client c may come in in this way
 abbrev pub MayEnter : ℕ → World → Entrance → Type 0

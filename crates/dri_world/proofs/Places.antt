@@ -1,13 +1,10 @@
 -- Places of lists: what stands at a place after a write, and numbers that rise.
-use Rattle.std.proofs.Common.{◌≡◌, ◌≢◌, ◌<◌, ℕ, List, Bool, true, false, length, get_or, Some, arith, refl, sym, ap, ◌∙◌}
+use Rattle.std.proofs.Common.{◌≡◌, ◌≢◌, ◌<◌, ℕ, List, Bool, true, false, length, Some, arith, refl, sym, ap, ◌∙◌}
 use Rattle.std.proofs.Math.ListN.{set, length-set}
 use Rattle.std.specs.Prelude.{AllPairs, Contains, nat_lt, slice_get}
 use Rattle.std.proofs.lemmas.Bool.Decides.{nat_tests}
 use Rattle.std.proofs.lemmas.List.{get_or-set_same, get_or-set_other}
-use Rattle.std.proofs.lemmas.Option.{get_or_from_slice_get, slice_get-get_or, slice_get-map, slice_get_read, slice_get_within}
-use Rattle.std.specs.Option.{option_map}
-use Rattle.dri_base.specs.Ranges.{client_numbers}
-use Rattle.dri_base.specs.declared.scene.ClientScript.{ClientScript}
+use Rattle.std.proofs.lemmas.Option.{get_or_from_slice_get, slice_get-get_or, slice_get_within}
 
 -- a list has what stands at a place
 pub stands : (ns : List ℕ) (i n : ℕ) → slice_get ns i ≡ Some n → Contains ns n

@@ -1,5 +1,5 @@
 use Rattle.std.proofs.Common.{List, ◌≡◌, ◌<◌, ◌++◌, ◌∙◌, length, ap, sym, subst, rules}
-use Rattle.std.specs.Prelude.{Contains, Some, slice_get, true}
+use Rattle.std.specs.Prelude.{Contains, true}
 use Rattle.dri_base.specs.Ranges.{client_numbers}
 use Rattle.std.proofs.lemmas.Bool.{true≢false}
 use Rattle.dri_base.specs.declared.scene.ClientScript.{ClientScript}
