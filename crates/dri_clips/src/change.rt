@@ -39,7 +39,7 @@ impl From<OutOfMemory> for ChangeFault {
 }
 
 /// The window that a change names.
-fn named_by(change: &Change) -> u32
+pub fn named_by(change: &Change) -> u32
     ensures { result ≡ named_by change.now }
 {
     match *change {
