@@ -1,20 +1,20 @@
 -- A new stack changes nothing outside its area; so mended lists are the lists.
 use Rattle.std.proofs.Common.{◌≡◌, ℕ, zero, suc, ◌<◌, ◌≤◌, ◌+◌, length, get_or, set, take, replicate, List, [], ◌∷◌, ◌++◌, Bool, true, false, cond, arith, refl, sym, ◌∙◌, ap, subst, Option, None, Some, slice_get, filter, is_none, is_some, inl, inr}
-use Rattle.std.specs.Prelude.{ℤ, pos, ◌&&◌, ◌||◌, ◌==◌, ◌⊎◌, int_le, int_lt, not, All}
-use Rattle.std.proofs.lemmas.Bool.{true≢false, and_parts, eqb-true, eqb-false, cases_eq}
+use Rattle.std.specs.Prelude.{ℤ, ◌&&◌, ◌||◌, ◌==◌, ◌⊎◌, int_le, int_lt, not, All}
+use Rattle.std.proofs.lemmas.Bool.{true≢false, eqb-true, eqb-false, cases_eq}
 use Rattle.std.proofs.lemmas.Int.{ints}
 use Rattle.std.proofs.lemmas.List.{length-set, get_or-set_same, get_or-set_other, get_or_append_left, get_or_default, length-append, take_all}
 use Rattle.dri_base.specs.declared.scene.Window.{Window}
 use Rattle.dri_base.specs.declared.shape.Rect.{Rect}
 use Rattle.dri_base.specs.Ranges.{IsSide, WindowInRange}
 use Rattle.dri_rect.specs.Pixels.{has_pixel, inside}
-use Rattle.dri_model.specs.Stacks.{is_window, origin}
+use Rattle.dri_model.specs.Stacks.{is_window}
 use Rattle.dri_clips.specs.declared.layout.Layout.{Layout}
 use Rattle.dri_clips.specs.declared.mending.Mended.{Mended}
 use Rattle.dri_clips.specs.declared.mending.Patch.{Patch}
 use Rattle.dri_clips.specs.Areas.{greater, has_named, in_area, lesser, meets, others, share_pixel, shared}
 use Rattle.dri_clips.specs.Boards.{shows}
-use Rattle.dri_clips.specs.Layouts.{AreApart, IsAbsent, IsLayout, IsPlaced, covers, screen_rect, top_at, window_rect}
+use Rattle.dri_clips.specs.Layouts.{AreApart, IsAbsent, IsLayout, covers, screen_rect, top_at, window_rect}
 use Rattle.dri_clips.specs.Mends.{AreMended, IsBare, IsLeft, IsMended, IsNew, IsNewList, IsPatch, IsWalk, Stands, is_met, list_or}
 use Rattle.dri_clips.proofs.Placing.{origin_absent, origin_at, placed_here}
 use Rattle.dri_clips.proofs.Walking.{differs, left_more, never_top, shown, top_place}
@@ -414,3 +414,14 @@ bare_layout l wide high e f g = record {
 pub all_named : (ws : List Window) → others (λ w. true) ws ≡ []
 all_named [] = refl
 all_named (w ∷ ws) = all_named ws
+
+-- a list that only loses pixels
+pub no_part : (old area part kept gained : List Rect) → part ≡ [] → gained ≡ [] → ((x y : ℤ) → inside kept x y ≡ (inside old x y && not (inside area x y))) → IsPatch old area (inside part) (record { clips = kept; gained = gained })
+no_part old area part kept gained e f g = record {
+  clips = λ x y. g x y ∙ sym (or_none (inside old x y && not (inside area x y))) ∙ ap (λ (rs : List Rect). (inside old x y && not (inside area x y)) || inside rs x y) (sym e);
+  gained = λ x y. ap (λ (rs : List Rect). inside rs x y) f ∙ ap (λ (rs : List Rect). inside rs x y && not (inside old x y)) (sym e);
+}
+  where
+    or_none : (b : Bool) → (b || false) ≡ b
+    or_none true = refl
+    or_none false = refl

@@ -1,5 +1,5 @@
 -- The lists that a new stack gives the windows that it meets.
-use Rattle.std.specs.Prelude.{ℕ, ℤ, List, [], Bool, true, false, ◌&&◌, ◌||◌, not, ◌≡◌, ◌<◌, ◌+◌, ◌*◌, ◌⊎◌, length, is_none, slice_get, slice_index_or, take, Option, None, Some}
+use Rattle.std.specs.Prelude.{ℕ, ℤ, List, [], Bool, false, ◌&&◌, ◌||◌, not, ◌≡◌, ◌<◌, ◌+◌, ◌*◌, ◌⊎◌, length, is_none, slice_get, slice_index_or, take, Option, None, Some}
 use Rattle.dri_base.specs.declared.scene.Window.{Window}
 use Rattle.dri_base.specs.declared.shape.Rect.{Rect}
 use Rattle.dri_rect.specs.Pixels.{has_pixel, inside}

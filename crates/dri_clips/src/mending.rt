@@ -65,6 +65,12 @@ fn mend_list<L: Ledger>(
     ensures steps { steps.new ≤ steps.old + 3 }
 {
     let kept = old.subtract(alloc, area, steps)?;
+    if part.len() == 0 {
+        return Ok(Patch {
+            clips: kept,
+            gained: Region::empty(alloc, steps),
+        });
+    }
     Ok(Patch {
         clips: kept.unite(alloc, part, steps)?,
         gained: part.subtract(alloc, old, steps)?,

@@ -2,7 +2,7 @@ use Rattle.std.proofs.Common.{ap, sym, ◌∙◌}
 use Rattle.std.proofs.lemmas.Result.{IfOk-weaker}
 use Rattle.dri_base.specs.declared.shape.Rect.{Rect}
 use Rattle.dri_clips.specs.Areas.{shared}
-use Rattle.dri_clips.proofs.Areas.{added, shared_range}
+use Rattle.dri_clips.proofs.Areas.{added}
 use Rattle.dri_clips.proofs.area.add_window.Goals as goal
 
 pub returns-clause-region : goal.returns-clause-region

@@ -1,6 +1,5 @@
 use Rattle.std.proofs.Common.{◌≡◌, w32, rules, ◌∙◌, to_z, of_z}
 use Rattle.std.proofs.lemmas.Int.{to_z-of_z}
-use mir.Val.{SFits}
 use Rattle.dri_clips.specs.Areas.{greater, lesser}
 use Rattle.dri_clips.proofs.area.shared.Goals as goal
 

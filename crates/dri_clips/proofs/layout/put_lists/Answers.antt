@@ -1,4 +1,4 @@
-use Rattle.std.proofs.Common.{◌≡◌, ◌++◌, ◌∷◌, [], arith, ap, length, set, ◌∙◌, ℕ, List}
+use Rattle.std.proofs.Common.{◌≡◌, ◌++◌, ◌∷◌, [], arith, ap, length, set, ◌∙◌, ℕ}
 use Rattle.std.specs.Prelude.{Option}
 use Rattle.dri_clips.specs.declared.mending.Patch.{Patch}
 use Rattle.dri_clips.proofs.Lists.{put_first, put_some}

@@ -1,4 +1,4 @@
-use Rattle.std.proofs.Common.{◌≡◌, ◌<◌, arith, refl, sym, subst, ◌∙◌, ◌++◌, ap, map, Some, None}
+use Rattle.std.proofs.Common.{◌<◌, arith, refl, subst, ◌∙◌, ◌++◌, ap, map}
 use Rattle.std.specs.Prelude.{Option}
 use Rattle.dri_base.specs.Ranges.{WindowInRange}
 use Rattle.dri_clips.specs.declared.mending.Patch.{Patch}

@@ -1,4 +1,4 @@
-use Rattle.std.proofs.Common.{◌≡◌, false, true, sym, subst, ◌∙◌}
+use Rattle.std.proofs.Common.{sym, subst, ◌∙◌}
 use Rattle.std.specs.Prelude.{Option, not}
 use Rattle.dri_model.specs.Stacks.{same_origin}
 use Rattle.dri_clips.specs.declared.mending.Patch.{Patch}
