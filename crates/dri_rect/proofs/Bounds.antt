@@ -104,17 +104,6 @@ kept_one [] r d none n e k i = absurd (omega (arith, n))
 kept_one (s ∷ t ∷ ts) r d none n e k i = absurd (omega (arith, n))
 kept_one (s ∷ []) r d none n e k i = rw e (kept_alone s none k (λ a b. i.range.0) i.canonical.banded.0.across i.canonical.banded.0.down)
 
-pub listed_one : (rs : List Rect) (r d : Rect) (none : List Rect) → length rs ≡ 1 → r ≡ get_or rs 0 d → none ≡ [] → IsRegion rs → listed r none ≡ rs
-listed_one [] r d none n e k i = absurd (omega (arith, n))
-listed_one (s ∷ t ∷ ts) r d none n e k i = absurd (omega (arith, n))
-listed_one (s ∷ []) r d none n e k i = rw (e, k, wide) refl
-  where
-    across : s.x1 <ℤ s.x2
-    across = i.canonical.banded.0.across
-
-    wide : int_lt s.x1 s.x2 ≡ true
-    wide = grind (arith, ints)
-
 -- what two rectangles share of a region kept as one of them is in range
 pub shared_fits : (a b : Rect) (rs : List Rect) → length rs ≡ 0 → IsKept a rs → FitsIfProper (shared_by a b)
 shared_fits a b (r ∷ rs) n k = absurd (omega (arith, n))

@@ -1,6 +1,7 @@
 pub mod Unique
 pub mod RowWalks
 pub mod Uniting
+pub mod Subtracting
 pub mod BandWalks
 pub mod Regions
 pub mod Arrangement
