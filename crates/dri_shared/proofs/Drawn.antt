@@ -10,7 +10,7 @@ use Rattle.dri_base.specs.declared.shape.Triangle.{Triangle}
 use Rattle.dri_card.specs.Contents.{Contents, HaveSides, Holds, KeepSides, Shows}
 use Rattle.dri_card.specs.Drawing.{OnlyDrawn, OnlyShown, after_triangle, cleared, drawn, swapped}
 use Rattle.dri_rect.specs.Pixels.{inside, has_pixel}
-use Rattle.dri_shared.specs.Drawing.{IsScreen, OnlyDrawnOn, cleared_in, drawn_in, in_clips, swapped_in}
+use Rattle.dri_shared.specs.Drawing.{OnlyDrawnOn, cleared_in, drawn_in, in_clips, swapped_in}
 use Rattle.dri_shared.proofs.Rects.{IsSameRect, inside_more, same_pixels}
 
 -- a fact of the case that it is
@@ -41,23 +41,6 @@ holds_shown a b f only h = record { colours = rw (ap {A = Contents} (λ v. v.bac
 
 pub holds_clipped : (a b : Contents) (c : ClipRect) (f : ℕ → ℕ → Pixel) → b ≡ record a { clip = c } → Holds a f → Holds b f
 holds_clipped a b c f is h = record { colours = rw (ap {A = Contents} (λ v. v.back) is) h.colours; depths = rw (ap {A = Contents} (λ v. v.depth) is) h.depths }
-
--- a screen stays one where the sides stay
-pub screen_kept : (a b : Contents) → KeepSides a b → IsScreen a → IsScreen b
-screen_kept a b keep is =
-    let s = keep a.front.width a.front.height is.sides in
-    record {
-      sides = record {
-        front_width = refl;
-        front_height = refl;
-        back_width = s.back_width ∙ sym s.front_width;
-        back_height = s.back_height ∙ sym s.front_height;
-        depth_width = s.depth_width ∙ sym s.front_width;
-        depth_height = s.depth_height ∙ sym s.front_height;
-      };
-      wide = rw s.front_width is.wide;
-      high = rw s.front_height is.high;
-    }
 
 -- the sides of a screen's planes
 pub screen_sides : (v : Contents) (width height : ℕ) → HaveSides v v.front.width v.front.height → v.front.width ≡ width → v.front.height ≡ height → HaveSides v width height
