@@ -1,10 +1,11 @@
 //! The worked triangles.
 
 ghost use Rattle.std.specs.Prelude.{◌≡◌};
-ghost use Rattle.dri_base.specs.Ranges.{IsVertexPlace};
+ghost use Rattle.dri_base.specs.Ranges.{IsVertexPlace, TriangleInRange, VertexInRange};
 
 use dri_base::{Point, Rect, Rgba, Triangle, Vertex};
 use dri_raster::{Channel, Setup, Span, common_edge, covered_is_amid};
+use std::process::Abort;
 use std::test::Fail;
 
 /// The first four rows' first four pixels.
@@ -139,4 +140,88 @@ fn empty(rt: HostRuntime) {
         c: corner(5, 5),
     };
     assert!(rt; Setup::new(&triangle).is_none());
+}
+
+/// The middle of the plane.
+const MIDDLE: Rect = Rect {
+    x1: -2,
+    y1: -2,
+    x2: 2,
+    y2: 2,
+};
+
+/// A corner at a place in range.
+fn placed<R: Abort>(rt: &R, place: (i32, i32)) -> Vertex
+    ensures { VertexInRange result }
+{
+    let (x, y) = place;
+    assert!(rt; -32768 <= x && x <= 32767);
+    assert!(rt; -32768 <= y && y <= 32767);
+    corner(x, y)
+}
+
+/// A triangle of three places in range.
+fn triangle<R: Abort>(rt: &R, places: [(i32, i32); 3]) -> Triangle
+    ensures { TriangleInRange result }
+{
+    Triangle {
+        a: placed(rt, places[0]),
+        b: placed(rt, places[1]),
+        c: placed(rt, places[2]),
+    }
+}
+
+/// How many pixels odd triangles cover: of the square, one a pixel wide, one of a row, and those that lie wholly left, right,
+/// above and below; of the middle, one whose corners are as far apart as can be.
+#[test]
+fn odd(rt: HostRuntime) -> Result<(), Fail> {
+    for (places, in_square, in_middle) in [
+        ([(16, 0), (32, 0), (16, 64)], 2, 2),
+        ([(0, 0), (64, 0), (0, 16)], 2, 2),
+        ([(-64, 0), (-16, 0), (-64, 64)], 0, 1),
+        ([(80, 0), (144, 0), (80, 64)], 0, 0),
+        ([(0, -64), (64, -64), (0, -16)], 0, 1),
+        ([(0, 80), (64, 80), (0, 144)], 0, 0),
+        ([(-32768, -32768), (32767, -32768), (-32768, 32767)], 0, 6),
+    ] {
+        let setup = Setup::new(&triangle(&rt, places)).expect(&rt, "the triangle has an area");
+        let square: Vec<Point> = setup.for_rect(&SQUARE).collect(rt.alloc())?;
+        let middle: Vec<Point> = setup.for_rect(&MIDDLE).collect(rt.alloc())?;
+        assert_eq!(rt; square.len(), in_square);
+        assert_eq!(rt; middle.len(), in_middle);
+    }
+    Ok(())
+}
+
+/// Eight triangles round the centre of a pixel, whose common edges go in all eight directions through centres: each pixel of
+/// the square of eight by eight that they make is covered by one of them.
+#[test]
+fn fan(rt: HostRuntime) {
+    let ring = [
+        (136, 72),
+        (136, 136),
+        (72, 136),
+        (8, 136),
+        (8, 72),
+        (8, 8),
+        (72, 8),
+        (136, 8),
+        (136, 72),
+    ];
+    for y in 0..8u8 {
+        for x in 0..8u8 {
+            let mut times: u32 = 0;
+            for i in 0..8_usize {
+                let places = [(72, 72), ring[i], ring[i + 1]];
+                let setup = Setup::new(&triangle(&rt, places)).expect(
+                    &rt,
+                    "the triangle has an area",
+                );
+                if setup.covers(i32::from(x), i32::from(y)) {
+                    times = times.wrapping_add(1);
+                }
+            }
+            assert_eq!(rt; times, 1);
+        }
+    }
 }

@@ -2,5 +2,5 @@ pub mod Surfaces
 pub mod Clips
 pub mod Samplings
 pub mod Samplers
-pub mod Rows
 pub mod Drawings
+pub mod Rows

@@ -3,14 +3,15 @@
 //! depth function is three flags, of which a pixel's depth says the one that counts, and whether depth is written is a
 //! flag too: no pixel looks at the registers.
 
-ghost use Rattle.std.specs.Prelude.{◌≡◌, ◌≤◌, ◌+◌, ◌*◌, ℕ, length, IsNone, IfSome, ◌↔◌, pos};
-ghost use Rattle.dri_base.specs.Coverage.{area};
+ghost use Rattle.std.specs.Prelude.{◌≡◌, ◌≤◌, ◌+◌, ◌*◌, ℕ, length, IsNone, IfSome, IsTrue, ◌↔◌, pos};
+ghost use Rattle.dri_base.specs.Coverage.{area, covers};
 ghost use Rattle.dri_base.specs.Ranges.{IsPlace, TriangleInRange};
 ghost use Rattle.dri_model.specs.Words.{IsBoundInRange, IsScissorInRange, card_image, rules_in};
 ghost use Rattle.dri_base.specs.Planes.{in_rect};
 ghost use Rattle.dri_plane.specs.Grids.{IsInside};
 ghost use Rattle.dri_walk.specs.Clips.{covered_places};
 ghost use Rattle.dri_walk.specs.Drawings.{after_drawing, fragment_kept, pair_by, pair_left, turned_at, unscissored};
+ghost use Rattle.dri_walk.specs.Rows.{IsDepthAt};
 ghost use Rattle.dri_walk.specs.Samplings.{IsImageWithin, byte_in};
 ghost use Rattle.dri_walk.specs.Surfaces.{PairsBecome, drawn_at};
 
@@ -21,7 +22,7 @@ use crate::depth_test::DepthTest;
 use crate::sampler::Texture;
 use crate::surface::Surface;
 use dri_base::{Blend, ClipRect, Pixel, Point, Registers, Rgba, Shade, Steps, Triangle};
-use dri_raster::Setup;
+use dri_raster::{Channel, Runner, Setup};
 use dri_texel::pixel_rule;
 use std::sync::ledger::Ledger;
 
@@ -92,6 +93,19 @@ impl<'a> Drawing<'a> {
             },
             texture: Texture::new(registers, memory),
         })
+    }
+
+    /// A runner of the depth that stands at pixel (x, y), which the triangle covers; `None` where every depth is drawn and none
+    /// is written.
+    #[inline(always)]
+    pub fn depth_runner(&self, x: i32, y: i32) -> Option<Runner<'_>>
+        requires { IsTrue (covers self.now.setup x y) }
+        ensures { IsDepthAt self.now.depth_test self.now.depth_write result self.now.setup x y }
+    {
+        if self.depth_test.is_always() && !self.depth_write {
+            return None;
+        }
+        Some(self.setup.runner(Channel::Z, x, y))
     }
 
     /// Draws at each place of a rectangle of the surface. The origin is the window's upper left corner on the screen.
