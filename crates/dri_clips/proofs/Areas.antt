@@ -59,6 +59,15 @@ spread true s h g = refl
 spread false true h g = refl
 spread false false h g = refl
 
+-- the named windows of both stacks
+pub both_named : (named : Window → Bool) (screen : Rect) (old new : List Window) (none area next : List Rect) → none ≡ [] →
+    ((x y : ℤ) → inside area x y ≡ (inside none x y || (has_pixel screen x y && has_named named old x y))) →
+    ((x y : ℤ) → inside next x y ≡ (inside area x y || (has_pixel screen x y && has_named named new x y))) →
+    (x y : ℤ) → inside next x y ≡ (has_pixel screen x y && (has_named named old x y || has_named named new x y))
+both_named named screen old new none area next e first second x y =
+    second x y ∙ ap (λ b. b || (has_pixel screen x y && has_named named new x y)) (first x y ∙ ap (λ (rs : List Rect). inside rs x y || (has_pixel screen x y && has_named named old x y)) e)
+    ∙ spread false (has_pixel screen x y) (has_named named old x y) (has_named named new x y)
+
 pub named_more : (named : Window → Bool) (screen : Rect) (ws : List Window) (i j : ℕ) (w : Window) (first area next : List Rect) → j ≡ i + 1 → slice_get ws i ≡ Some w →
     ((x y : ℤ) → inside area x y ≡ (inside first x y || (has_pixel screen x y && has_named named (take i ws) x y))) →
     ((x y : ℤ) → inside next x y ≡ (inside area x y || (has_pixel screen x y && (named w && covers w x y)))) →
