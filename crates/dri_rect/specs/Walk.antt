@@ -5,7 +5,7 @@ use Rattle.std.specs.List.{AllByRecursion}
 use Rattle.dri_base.specs.declared.shape.Rect.{Rect}
 use Rattle.dri_rect.specs.declared.operation.Operation.{Operation}
 use Rattle.dri_rect.specs.declared.operation.Operation.TheVariants.{Unite, Subtract, Intersect}
-use Rattle.dri_rect.specs.Pixels.{least, most, in_columns, inside, shift, IsBanded, IsCanonical, IsProper}
+use Rattle.dri_rect.specs.Pixels.{In, least, most, in_columns, inside, shift, IsBanded, IsCanonical, IsProper}
 
 -- whether a pixel is in the answer, by whether it is in the two sets
 abbrev pub answer : Operation → Bool → Bool → Bool
@@ -230,6 +230,16 @@ pub record LaterDown (rs ts : List Rect) (y : ℤ) : Type 0 where
   pub is_bands : IsBands ts
   pub ahead : AheadDown ts y
   pub same : (x z : ℤ) → y ≤ℤ z → inside rs x z ≡ inside ts x z
+  pub part : (r : Rect) → In r ts → In r rs
+
+-- the first rectangle begins below line y
+abbrev pub Under : List Rect → ℤ → Type 0
+Under [] y = Unit {0}
+Under (r ∷ rs) y = y <ℤ r.y1
+
+-- one of the two is over, and the other, which begins below line y, is the rest
+abbrev pub IsRest : List Rect → List Rect → List Rect → ℤ → Type 0
+IsRest rs ss rest y = ((ss ≡ []) × (rest ≡ rs) × Under rs y) ⊎ ((rs ≡ []) × (rest ≡ ss) × Under ss y)
 
 -- two rows have the same columns
 abbrev pub same_columns : List Rect → List Rect → Bool

@@ -8,8 +8,9 @@
 //! walked.
 //!
 //! Unite, subtract and intersect share one walk down the bands of both lists, which is linear in them. Where it comes to
-//! a line at which one of the two may change, it combines the rows of columns there, by a walk to the right. The band that
-//! is written last is held back until the next one is known to differ.
+//! a line at which one of the two may change, it combines the rows of columns there, by the operation's walk to the right. A
+//! band that turns out equal to the one above is taken back, and that one made longer. Where one of the two is over, what is
+//! left of the other is copied whole.
 #![tactic(auto)]
 
 mod bands;
