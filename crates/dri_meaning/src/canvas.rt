@@ -25,8 +25,8 @@ use dri_base::{
     BoundTexture, ClientScript, ClipRect, Command, OutOfMemory, Pixel, Point, Registers, Sequence,
     State, Steps, Texture, Triangle,
 };
-use dri_plane::Plane;
-use dri_walk::{Painter, Surface, draw_triangle};
+use dri_plane::{Painter, Plane};
+use dri_walk::{Surface, draw_triangle};
 use std::alloc::Global;
 use std::marker::Brand;
 use std::sync::ledger::{Blank, Ledger};
