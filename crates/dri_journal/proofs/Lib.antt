@@ -1,3 +1,14 @@
 pub mod Spellings
 mod Accumulating
 mod ReadBack
+-- What a replay keeps
+mod Runs
+mod Unchanged
+mod Whom
+mod Legal
+mod Keeping
+mod Counting
+mod Restacked
+mod Judged
+mod Beginning
+mod Reported

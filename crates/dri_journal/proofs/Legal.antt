@@ -1,0 +1,186 @@
+-- What a legal entry of a client needs of its part and of the regions, and what it makes of the regions.
+use Rattle.std.proofs.Common.{◌≡◌, ◌≢◌, ◌<◌, ◌≤◌, ◌+◌, ◌-◌, ◌*◌, ◌/◌, ◌∙◌, ℕ, suc, List, [], ◌∷◌, Bool, true, false, Option, Some, None, length, refl, sym, ap, subst, arith, inl, inr}
+use Rattle.std.specs.Prelude.{◌⊎◌, ◌==◌, IfSome, IsSome, nat_le, pred, slice_get}
+use Rattle.std.proofs.lemmas.Bool.{and_parts, true≢false}
+use Rattle.std.proofs.lemmas.Bool.Decides.{nat_tests}
+use Rattle.std.proofs.Math.Nat.{le-div_iff_mul-le, le-mul_of_pos_right}
+use Rattle.dri_base.specs.Limits.{last_age}
+use Rattle.dri_base.specs.Ranges.{InRange, TextureInRange, heap_bytes}
+use Rattle.dri_base.specs.Scenes.{bytes_of, command_at, commands_of, regions_for, regions_needed, script_of, texel_bytes, textures_of}
+use Rattle.dri_base.specs.Texels.{texture_in}
+use Rattle.dri_base.specs.declared.command.Command.{Command}
+use Rattle.dri_base.specs.declared.command.Command.TheVariants as Command_is
+use Rattle.dri_base.specs.declared.journal.Entry.{Entry}
+use Rattle.dri_base.specs.declared.journal.Entry.TheVariants as Entry_is
+use Rattle.dri_base.specs.declared.scene.Scene.{Scene}
+use Rattle.dri_base.specs.declared.state.TexMode.{TexMode}
+use Rattle.dri_base.specs.declared.state.TexMode.TheVariants as Mode_is
+use Rattle.dri_base.specs.declared.texture.TexFormat.{TexFormat}
+use Rattle.dri_base.specs.declared.texture.TexFormat.TheVariants.{L8, Rgb565}
+use Rattle.dri_base.specs.declared.texture.Texture.{Texture}
+use Rattle.dri_base.proofs.RangeLemmas.{textures_in_range, well_formed}
+use Rattle.dri_base.proofs.RegionSizes.{region_size_above}
+use Rattle.dri_client.specs.Kept.{IsKept}
+use Rattle.dri_client.specs.Parts.{Agrees, PartState, next_command}
+use Rattle.dri_client.specs.Textures.{run_used}
+use Rattle.dri_core.specs.Effects.{heap_after, run_at}
+use Rattle.dri_core.specs.EntryTable.{LegalEntry, after_entry}
+use Rattle.dri_core.specs.Phases.{In}
+use Rattle.dri_core.specs.Privates.{Private, can_draw, can_run, run_of, texture_used, textured_with, used_run}
+use Rattle.dri_core.specs.Runs.{HoldRun, Intact, IsCurrent, after, client_of}
+use Rattle.dri_core.specs.Worlds.{World}
+use Rattle.dri_core.proofs.Bounds.{age_most_of_all}
+use Rattle.dri_core.proofs.RunLaws.{acting_current, intact}
+use Rattle.dri_journal.specs.Acts.{MayAct, UsesRegions, heap_by, is_quiet}
+use Rattle.dri_model.specs.Heaps.{Heap, Run, allocated, classes_for, fits, in_run, is_place_for}
+use Rattle.dri_texheap.specs.Placements.{placed_of}
+use Rattle.dri_texheap.specs.RegionStates.{AreRegionsOf, IsInUse, IsInside, RegionState, heap_of}
+
+-- a place of the heap's rule lies inside
+place_inside : (n : ℕ) (h : Heap) (count first : ℕ) → is_place_for n h count first ≡ true → first + count ≤ n
+place_inside n h count first e = place n h (classes_for n h count) count first (and_parts _ _ e).1
+  where
+    place : (n : ℕ) (h : Heap) (m count first : ℕ) → fits n h m count first ≡ true → first + count ≤ n
+    place n h m count first f = let low : nat_le (first + count) n ≡ true = (and_parts (nat_le (first + count) n) _ f).0 in grind (arith, nat_tests)
+
+bound_where : (mode : TexMode) (bound : Option ℕ) (t : ℕ) → texture_used mode bound ≡ Some t → bound ≡ Some t
+bound_where Mode_is.Off bound t e = absurd (cc)
+bound_where Mode_is.Replace bound t e = e
+bound_where Mode_is.Modulate bound t e = e
+
+some_bytes : (f : TexFormat) (w h n : ℕ) → n ≡ texel_bytes f * (w * h) → 1 ≤ w → 1 ≤ h → 0 < n
+some_bytes L8 w h n e lw lh = let high : 0 < h = omega (arith, lh) in omega (arith, e, lw, le-mul_of_pos_right w high)
+some_bytes Rgb565 w h n e lw lh = let high : 0 < h = omega (arith, lh) in omega (arith, e, lw, le-mul_of_pos_right w high)
+
+at_least_one : (size n : ℕ) → 0 < size → 0 < n → 1 ≤ regions_for size n
+at_least_one size n sized some = (le-div_iff_mul-le {k = size} {x = 1} {y = n + (size - 1)} sized).1 (omega arith)
+
+-- the texture that a part's triangles need has bytes
+pub needed_bytes : (s : Scene) (c t : ℕ) (part : PartState) → InRange s → IsKept (script_of s c) s.regions part → textured_with part.state ≡ Some t → 0 < length (bytes_of (texture_in (textures_of s c) t))
+needed_bytes s c t part good kept e = by_texture (texture_in (textures_of s c) t) refl (kept.bound t (bound_where part.state.tex_mode part.state.bound t e))
+  where
+    by_texture : (o : Option Texture) → texture_in (textures_of s c) t ≡ o → IsSome o → 0 < length (bytes_of (texture_in (textures_of s c) t))
+    by_texture None is some = absurd (cc)
+    by_texture (Some p) is some =
+        let range : TextureInRange (heap_bytes s) p = textures_in_range s c t p good is in
+        rw is (some_bytes p.shape.format p.shape.width p.shape.height (length p.bytes) range.whole range.wide.0 range.high.0)
+
+-- the command is the one that the entry runs, where it runs one
+abbrev pub Runs : Scene → Entry → Option Command → Type 0
+Runs s (Entry_is.Run c i) command = command ≡ command_at s c i
+Runs s _ command = Unit {0}
+
+can_run_some : (ready : Bool) (command : Option Command) → can_run ready command ≡ true → IsSome command
+can_run_some ready None e = absurd (true≢false (sym e))
+can_run_some ready (Some command) e = refl
+
+-- a legal entry of client c after a journal, whose part is this
+module _ (s : Scene) (j : List Entry) (good : InRange s) (run : HoldRun s j) (c : ℕ) (part : PartState) (agrees : Agrees part ((after s j).client c)) (kept : IsKept (script_of s c) s.regions part) where
+  private_is : part.phase ≡ ((after s j).client c).phase
+  private_is = ap (λ (q : Private). q.phase) agrees
+
+  place_is : part.place ≡ ((after s j).client c).place
+  place_is = ap (λ (q : Private). q.place) agrees
+
+  used_is : textured_with part.state ≡ textured_with ((after s j).client c).state
+  used_is = ap (λ (q : Private). textured_with q.state) agrees
+
+  placed_is : placed_of part.placed ≡ ((after s j).client c).placed
+  placed_is = ap (λ (q : Private). q.placed) agrees
+
+  pub may_act : (e : Entry) → client_of e ≡ c → is_quiet e ≡ true → LegalEntry s (after s j) e → MayAct (script_of s c) s.regions part e
+  may_act (Entry_is.Light d) own quiet legal = private_is ∙ sym (ap (λ n. ((after s j).client n).phase) own) ∙ legal.0
+  may_act (Entry_is.Kernel d found) own quiet legal = private_is ∙ sym (ap (λ n. ((after s j).client n).phase) own) ∙ legal.0
+  may_act (Entry_is.Stale d) own quiet legal = private_is ∙ sym (ap (λ n. ((after s j).client n).phase) own) ∙ legal
+  may_act (Entry_is.Info d) own quiet legal = private_is ∙ sym (ap (λ n. ((after s j).client n).phase) own) ∙ legal.0
+  may_act (Entry_is.Place d t first count) own quiet legal = (used_is ∙ sym (ap (λ n. textured_with ((after s j).client n).state) own) ∙ legal.1, place_inside s.regions (after s j).heap count first legal.4)
+  may_act (Entry_is.Run d i) own quiet legal = (at, there)
+    where
+      at : i ≡ part.place
+      at = legal.1 ∙ ap (λ n. ((after s j).client n).place) own ∙ sym place_is
+
+      there : IsSome (next_command (script_of s c) part)
+      there = subst (λ n. IsSome (slice_get (commands_of s c) (pred n))) at (subst (λ n. IsSome (command_at s n i)) own (can_run_some (can_draw ((after s j).client d)) (command_at s d i) legal.2))
+  may_act (Entry_is.Emit d groups) own quiet legal = tt
+  may_act (Entry_is.Leave d) own quiet legal = tt
+  may_act (Entry_is.Change i) own quiet legal = tt
+  may_act (Entry_is.Gone d) own quiet legal = tt
+
+  pub ran_command : (e : Entry) → client_of e ≡ c → LegalEntry s (after s j) e → Runs s e (next_command (script_of s c) part)
+  ran_command (Entry_is.Run d i) own legal = (λ k. slice_get (commands_of s c) (pred (place_is k))) ∙ (λ k. slice_get (commands_of s (sym own k)) (pred (((after s j).client (sym own k)).place))) ∙ (λ k. slice_get (commands_of s d) (pred (sym legal.1 k)))
+  ran_command (Entry_is.Light d) own legal = tt
+  ran_command (Entry_is.Kernel d found) own legal = tt
+  ran_command (Entry_is.Stale d) own legal = tt
+  ran_command (Entry_is.Info d) own legal = tt
+  ran_command (Entry_is.Emit d groups) own legal = tt
+  ran_command (Entry_is.Leave d) own legal = tt
+  ran_command (Entry_is.Place d t first count) own legal = tt
+  ran_command (Entry_is.Change i) own legal = tt
+  ran_command (Entry_is.Gone d) own legal = tt
+
+  module _ (regions : RegionState) (are : AreRegionsOf s (after s j).heap regions) where
+    pub age_small : (heap_of regions).global ≤ last_age
+    age_small = let same : (heap_of regions).global ≡ (after s j).heap.global = ap (λ (h : Heap). h.global) are.ages in omega (arith, same, age_most_of_all s j good run)
+
+    -- what a triangle uses is inside and in use
+    in_use : (((after s j).client c).phase ≡ In) → (o : Option ℕ) (u : Option Run) → run_of (placed_of part.placed) o ≡ u → IfSome u (IsInside regions.count) × IfSome u (IsInUse (heap_of regions))
+    in_use acts None None e = (tt, tt)
+    in_use acts None (Some r) e = absurd (cc)
+    in_use acts (Some t) None e = (tt, tt)
+    in_use acts (Some t) (Some r) e = (subst (λ n. IsInside n r) (sym are.count) (subst (λ (v : Option Run). IfSome v (IsInside s.regions)) e (kept.inside t)), held)
+      where
+        current : IsCurrent s (after s j) c
+        current = acting_current s j good run c (inl acts)
+
+        live : ((after s j).client c).placed t ≡ Some r
+        live = ap (λ (f : ℕ → Option Run). f t) (sym placed_is) ∙ e
+
+        held : IsInUse (heap_of regions) r
+        held = subst (λ (h : Heap). IsInUse h r) (sym are.ages) ((intact s j good run).used c t r (live, λ k i. subst (λ n. (after s j).heap.age k ≤ n) (sym current.local) ((intact s j good run).ages k)))
+
+    pub uses : (e : Entry) → client_of e ≡ c → is_quiet e ≡ true → LegalEntry s (after s j) e → UsesRegions regions e (run_used part)
+    uses (Entry_is.Place d t first count) own quiet legal = (some, few, age_small, subst (λ (h : Heap). is_place_for regions.count h count first ≡ true) (sym are.ages) (subst (λ n. is_place_for n (after s j).heap count first ≡ true) (sym are.count) legal.4))
+      where
+        is : count ≡ regions_needed s c t
+        is = legal.3 ∙ ap (λ n. regions_needed s n t) own
+
+        textured : textured_with part.state ≡ Some t
+        textured = used_is ∙ sym (ap (λ n. textured_with ((after s j).client n).state) own) ∙ legal.1
+
+        some : 1 ≤ count
+        some = rw is (at_least_one s.region_size (length (bytes_of (texture_in (textures_of s c) t))) (region_size_above s.region_size good.card.sized) (needed_bytes s c t part good kept textured))
+
+        few : count ≤ regions.count
+        few = rw (is, are.count) ((well_formed s good).heap c t)
+    uses (Entry_is.Run d i) own quiet legal = let both = in_use (sym (ap (λ n. ((after s j).client n).phase) own) ∙ legal.0) (textured_with part.state) (run_used part) refl in (both.0, both.1, age_small)
+    uses (Entry_is.Light d) own quiet legal = tt
+    uses (Entry_is.Kernel d found) own quiet legal = tt
+    uses (Entry_is.Stale d) own quiet legal = tt
+    uses (Entry_is.Info d) own quiet legal = tt
+    uses (Entry_is.Emit d groups) own quiet legal = tt
+    uses (Entry_is.Leave d) own quiet legal = tt
+    uses (Entry_is.Change i) own quiet legal = tt
+    uses (Entry_is.Gone d) own quiet legal = tt
+
+    -- the regions after it
+    pub used : (e : Entry) (new : RegionState) → client_of e ≡ c → is_quiet e ≡ true → LegalEntry s (after s j) e → new.count ≡ regions.count →
+        heap_of new ≡ heap_by regions.count (heap_of regions) e (next_command (script_of s c) part) (run_used part) → AreRegionsOf s (after_entry s (after s j) e).heap new
+    used e new own quiet legal count is = record { count = count ∙ are.count; ages = is ∙ (λ i. heap_by (are.count i) (are.ages i) e (next_command (script_of s c) part) (run_used part)) ∙ after_is e own quiet legal }
+      where
+        after_is : (e : Entry) → client_of e ≡ c → is_quiet e ≡ true → LegalEntry s (after s j) e → heap_by s.regions (after s j).heap e (next_command (script_of s c) part) (run_used part) ≡ (after_entry s (after s j) e).heap
+        after_is (Entry_is.Place d t first count) own quiet legal = refl
+        after_is (Entry_is.Run d i) own quiet legal = λ k. heap_after (after s j).heap (runs k) (commands k)
+          where
+            runs : run_used part ≡ used_run ((after s j).client d)
+            runs = ap (λ (q : Private). used_run q) agrees ∙ sym (ap (λ n. used_run ((after s j).client n)) own)
+
+            commands : next_command (script_of s c) part ≡ command_at s d i
+            commands = ran_command (Entry_is.Run d i) own legal
+        after_is (Entry_is.Light d) own quiet legal = refl
+        after_is (Entry_is.Kernel d found) own quiet legal = refl
+        after_is (Entry_is.Stale d) own quiet legal = refl
+        after_is (Entry_is.Info d) own quiet legal = refl
+        after_is (Entry_is.Emit d groups) own quiet legal = refl
+        after_is (Entry_is.Leave d) own quiet legal = refl
+        after_is (Entry_is.Change i) own quiet legal = absurd (true≢false (sym quiet))
+        after_is (Entry_is.Gone d) own quiet legal = absurd (true≢false (sym quiet))

@@ -1,0 +1,38 @@
+-- A change that the board refuses touches nothing.
+use Rattle.std.proofs.Common.{◌≡◌, ◌≢◌, ◌↔◌, ℕ, zero, suc, List, Bool, false, Option, Some, None, refl, arith, Result, Ok, Err}
+use Rattle.dri_base.specs.declared.scene.Window.{Window}
+use Rattle.dri_clips.specs.Boards.{IsRestacked, Screen, stamps_of}
+use Rattle.dri_clips.specs.declared.change.ChangeFault.{ChangeFault}
+use Rattle.dri_clips.specs.declared.change.ChangeFault.TheVariants.{NoWindow, OutOfRange, AlreadyMapped, NotMapped, OutOfMemory}
+use Rattle.dri_clips.specs.declared.touched.Touched.{Touched}
+use Rattle.dri_core.proofs.Stamps.{untouched}
+use Rattle.dri_model.specs.Counting.{how_many}
+use Rattle.dri_model.specs.Stacks.{Refusal, is_touched, restamped, unless_refused}
+
+none_touched : (p : ℕ → Bool) (n : ℕ) → ((k : ℕ) → p k ≡ false) → how_many p n ≡ 0
+none_touched p zero none = refl
+none_touched p (suc n) none = rw (none n) (none_touched p n none)
+
+unstamped : (width height : ℕ) (ws : List Window) (counter : ℕ) (stamps : ℕ → ℕ) (n : ℕ) → stamps n ≡ restamped width height ws ws counter stamps n
+unstamped width height ws counter stamps n = rw (untouched width height ws n) refl
+
+-- a refused change
+pub refused_same : (r : Option Refusal) (ws new : List Window) (fault : ChangeFault) → fault ≢ OutOfMemory →
+    (◌≡◌ {A = Result Touched ChangeFault} (Err fault) (Err NoWindow) ↔ (r ≡ Some Refusal.NoWindow)) → (◌≡◌ {A = Result Touched ChangeFault} (Err fault) (Err OutOfRange) ↔ (r ≡ Some Refusal.OutOfRange)) →
+    (◌≡◌ {A = Result Touched ChangeFault} (Err fault) (Err AlreadyMapped) ↔ (r ≡ Some Refusal.AlreadyMapped)) → (◌≡◌ {A = Result Touched ChangeFault} (Err fault) (Err NotMapped) ↔ (r ≡ Some Refusal.NotMapped)) → unless_refused r ws new ≡ ws
+refused_same r ws new NoWindow ne a b c d = rw (a.0 refl) refl
+refused_same r ws new OutOfRange ne a b c d = rw (b.0 refl) refl
+refused_same r ws new AlreadyMapped ne a b c d = rw (c.0 refl) refl
+refused_same r ws new NotMapped ne a b c d = rw (d.0 refl) refl
+refused_same r ws new OutOfMemory ne a b c d = absurd (ne refl)
+
+-- the same stack gives no new stamp
+pub unrestacked : (stack : List Window) (board board' : Screen) → stack ≡ board.stack → board' ≡ board → IsRestacked stack board board'
+unrestacked stack board board' same is = rw (same, is) (record {
+  width = refl;
+  height = refl;
+  root = refl;
+  windows = refl;
+  stamps = λ i n. unstamped board.width board.height board.stack board.counter (stamps_of board) n i;
+  counter = rw (none_touched (is_touched board.width board.height board.stack board.stack) 65 (untouched board.width board.height board.stack)) (omega arith);
+})

@@ -1,0 +1,61 @@
+use Rattle.std.proofs.Common.{◌≡◌, ◌∙◌, ◌+◌, ◌≤◌, ◌++◌, [], ◌∷◌, Some, sym, ap, refl, subst, arith, length, List}
+use Rattle.std.specs.Prelude.{slice_get}
+use Rattle.dri_base.specs.declared.journal.Entry.TheVariants.{Change}
+use Rattle.dri_base.specs.declared.scene.ClientScript.{ClientScript}
+use Rattle.dri_base.proofs.RangeLemmas.{well_formed}
+use Rattle.dri_core.specs.EntryTable.{LegalEntry, after_entry}
+use Rattle.dri_core.specs.Restacks.{change_stack, next_stack}
+use Rattle.dri_core.specs.Runs.{after}
+use Rattle.dri_core.proofs.Bounds.{made_bounded, stamp_most}
+use Rattle.dri_core.proofs.Kept.{after_kept}
+use Rattle.dri_model.specs.Stacks.{stack_after}
+use Rattle.dri_journal.proofs.Keeping.{faithful, parts_stay}
+use Rattle.dri_journal.proofs.Restacked.{board_after, cut_counts, tells, told_after, untold_after, windows_told}
+use Rattle.dri_journal.specs.Deeds.{TellsStack, windows_in}
+use Rattle.dri_journal.specs.Replays.{MayTake, world_of}
+use Rattle.dri_journal.specs.Tallies.{has_number}
+use Rattle.dri_meaning.specs.Reports.{tally}
+use Rattle.dri_journal.proofs.replay.Replay.change.Goals as goal
+
+pub change_windows-requires-clause-counter : goal.change_windows-requires-clause-counter
+change_windows-requires-clause-counter c =
+    let i = c.self.inside in
+    omega (arith, c.self.invariant.windows.last, stamp_most i.scene.now i.entries.items c.self.invariant.scene c.self.invariant.run)
+
+pub cut-requires : goal.cut-requires
+cut-requires c = c.self.invariant.counts.room ∙ ap (λ (ps : List ClientScript). length ps) (sym c.as_slice.ensures)
+
+pub after-self-inside-requires-clause-made : goal.after-self-inside-requires-clause-made
+after-self-inside-requires-clause-made c =
+    let i = c.self.inside in
+    omega (arith, c.self.invariant.world.made, made_bounded i.scene.now i.entries.items c.self.invariant.scene c.self.invariant.run, c.self.invariant.scene.changed.few)
+
+pub invariant_of-self-2 : goal.invariant_of-self-2
+invariant_of-self-2 c =
+    let i = c.self.inside in let s = i.scene.now in let j = i.entries.items in let e = Change c.args.place in let good = c.self.invariant.scene in let run = c.self.invariant.run in
+    let legal : LegalEntry s (after s j) e = subst (λ v. MayTake v e) (sym c.self.view_is) c.requires in
+    let there : slice_get s.changes (after s j).made ≡ Some c.get-change.result.now = ap (λ m. slice_get s.changes m) (sym c.self.invariant.world.made) ∙ c.get-change.ensures in
+    let stack : stack_after c.get-change.result.now i.board.stack ≡ next_stack s (after s j) = ap (stack_after c.get-change.result.now) c.self.invariant.windows.windows ∙ ap (change_stack (after s j).stack) (sym there) in
+    let new = next_stack s (after s j) in
+    let some = told_after s (after s j) (stack_after c.get-change.result.now i.board.stack) new i.board c.in_ok-told.told c.self.invariant.windows stack c.in_ok-told.ensures.touched in
+    let none = untold_after s (after s j) (stack_after c.get-change.result.now i.board.stack) new i.board c.in_ok-told.told c.self.invariant.windows stack c.in_ok-told.ensures.refused in
+    faithful s j c.push_reserved.new.self.items e i.board c.change_windows.new.board i.regions i.regions i.parts.items i.parts.items i.tally c.cut.new.self i.marks c.after-self-inside.result
+    c.self.invariant legal (c.push_reserved.ensures.items ∙ ap (λ xs. xs ++ e ∷ []) c.reserve.ensures.items)
+    (board_after s (after s j) (stack_after c.get-change.result.now i.board.stack) new i.board c.change_windows.new.board c.self.invariant.windows stack c.in_ok-told.ensures.ok)
+    c.self.invariant.memory (parts_stay s (after s j) (after_entry s (after s j) e) i.parts.items refl c.self.invariant.clients)
+    (cut_counts s (after s j) e (tally s j) c.as_slice.result.now c.windows_of.result.now i.tally c.cut.new.self good c.as_slice.ensures c.self.invariant.counts c.cut.ensures.cut c.cut.ensures.frames c.cut.ensures.stood
+    (λ n le. ap (λ ns. has_number ns n) c.windows_of.ensures ∙ windows_told s (after s j) e new c.in_ok-told.told n (after_kept s j (well_formed s good) run) le refl some none))
+    (c.after-self-inside.ensures s (after s j) c.self.invariant.world)
+
+pub returns-clause-took : goal.returns-clause-took
+returns-clause-took c = rw (← c.self.view_is) (record { scene = refl; entries = c.push_reserved.ensures.items ∙ ap (λ xs. xs ++ Change c.args.place ∷ []) c.reserve.ensures.items })
+
+pub returns-clause-deed : goal.returns-clause-deed
+returns-clause-deed c =
+    let i = c.self.inside in let s = i.scene.now in let j = i.entries.items in
+    let there : slice_get s.changes (after s j).made ≡ Some c.get-change.result.now = ap (λ m. slice_get s.changes m) (sym c.self.invariant.world.made) ∙ c.get-change.ensures in
+    let stack : stack_after c.get-change.result.now i.board.stack ≡ next_stack s (after s j) = ap (stack_after c.get-change.result.now) c.self.invariant.windows.windows ∙ ap (change_stack (after s j).stack) (sym there) in
+    let new = next_stack s (after s j) in
+    let some = told_after s (after s j) (stack_after c.get-change.result.now i.board.stack) new i.board c.in_ok-told.told c.self.invariant.windows stack c.in_ok-told.ensures.touched in
+    let none = untold_after s (after s j) (stack_after c.get-change.result.now i.board.stack) new i.board c.in_ok-told.told c.self.invariant.windows stack c.in_ok-told.ensures.refused in
+    subst (λ v. TellsStack v.scene (world_of v) (next_stack v.scene (world_of v)) c.deed_told.result) c.self.view_is (subst (λ d. TellsStack s (after s j) new d) (sym c.deed_told.ensures) (tells s (after s j) new c.in_ok-told.told some none))

@@ -1,0 +1,52 @@
+-- What an entry does to the planes.
+use Rattle.std.specs.Prelude.{◌≡◌, ℕ, List, [], Option, Some, None, filter}
+use Rattle.std.specs.List.{range_with_len}
+use Rattle.dri_base.specs.declared.command.Command.{Command}
+use Rattle.dri_base.specs.declared.command.Command.TheVariants as Command_is
+use Rattle.dri_base.specs.declared.journal.Entry.{Entry}
+use Rattle.dri_base.specs.declared.journal.Entry.TheVariants as Entry_is
+use Rattle.dri_base.specs.declared.scene.Scene.{Scene}
+use Rattle.dri_base.specs.declared.scene.Window.{Window}
+use Rattle.dri_base.specs.Scenes.{command_at}
+use Rattle.dri_clips.specs.Paints.{ArePaints}
+use Rattle.dri_clips.specs.declared.touched.Touched.{Touched}
+use Rattle.dri_core.specs.Restacks.{next_stack, touched_by}
+use Rattle.dri_core.specs.Worlds.{World}
+use Rattle.dri_journal.specs.declared.deed.Deed.{Deed}
+use Rattle.dri_journal.specs.declared.deed.Deed.TheVariants as Deed_is
+use Rattle.dri_model.specs.Stacks.{without_owner}
+
+-- what the run of a command does, where there is one
+abbrev pub deed_by : Option Command → Deed
+deed_by (Some (Command_is.Clear colour depth)) = Deed_is.Clear colour depth
+deed_by (Some (Command_is.Triangle t)) = Deed_is.Triangle t
+deed_by (Some Command_is.Swap) = Deed_is.Swap
+deed_by _ = Deed_is.Nothing
+
+-- what was touched, as a deed
+abbrev pub deed_told : Option Touched → Deed
+deed_told None = Deed_is.Nothing
+deed_told (Some touched) = Deed_is.Touched touched
+
+-- the windows that were touched
+abbrev pub windows_in : Option Touched → List ℕ
+windows_in None = []
+windows_in (Some touched) = touched.windows
+
+-- what a new stack touches: by rising number the windows that get a new stamp, and the paints of front
+pub record IsTouchedBy (s : Scene) (w : World) (new : List Window) (touched : Touched) : Type 0 where
+  pub windows : touched.windows ≡ filter (touched_by s w new) (range_with_len 0 65)
+  pub paints : ArePaints s.width s.height s.root w.stack new touched.paints
+
+-- a new stack is told by what it touches, or it is the old one
+abbrev pub TellsStack : Scene → World → List Window → Deed → Type 0
+TellsStack s w new (Deed_is.Touched touched) = IsTouchedBy s w new touched
+TellsStack s w new Deed_is.Nothing = new ≡ w.stack
+TellsStack s w new _ = ⊥
+
+-- what an entry does to the planes
+abbrev pub Does : Scene → World → Entry → Deed → Type 0
+Does s w (Entry_is.Run c i) deed = deed ≡ deed_by (command_at s c i)
+Does s w (Entry_is.Change i) deed = TellsStack s w (next_stack s w) deed
+Does s w (Entry_is.Gone c) deed = TellsStack s w (without_owner c w.stack) deed
+Does s w _ deed = deed ≡ Deed_is.Nothing

@@ -1,0 +1,54 @@
+//! What an entry does to the planes.
+
+ghost use Rattle.std.specs.Prelude.{◌≡◌};
+ghost use Rattle.dri_journal.specs.Deeds.{deed_by, deed_told, windows_in};
+
+use dri_base::{Command, Rgb, Triangle};
+use dri_clips::Touched;
+
+/// What an entry does to what is drawn and shown.
+#[derive(Drop)]
+pub enum Deed {
+    /// Nothing. So does a change that the board refuses.
+    Nothing,
+    /// The client's clips are cleared in back, to this colour and this depth.
+    Clear { colour: Rgb, depth: u16 },
+    /// A triangle is drawn in back, in the client's clips.
+    Triangle(Triangle),
+    /// Back is copied to front in the client's clips.
+    Swap,
+    /// The windows have changed: those that were touched got new stamps, and front is painted.
+    Touched(Touched),
+}
+
+/// What the run of a command does, where there is one.
+pub fn deed_by(command: Option<Command>) -> Deed
+    ensures { result ≡ deed_by command }
+{
+    match command {
+        Some(Command::Clear { colour, depth }) => Deed::Clear { colour, depth },
+        Some(Command::Triangle(triangle)) => Deed::Triangle(triangle),
+        Some(Command::Swap) => Deed::Swap,
+        _ => Deed::Nothing,
+    }
+}
+
+/// The windows that were touched; none where nothing was.
+pub fn windows_of(told: &Option<Touched>) -> &[u32]
+    ensures { result.now ≡ windows_in told.now }
+{
+    match told {
+        Some(touched) => touched.windows.as_slice(),
+        None => &[],
+    }
+}
+
+/// What was touched, as a deed.
+pub fn deed_told(told: Option<Touched>) -> Deed
+    ensures { result ≡ deed_told told }
+{
+    match told {
+        Some(touched) => Deed::Touched(touched),
+        None => Deed::Nothing,
+    }
+}

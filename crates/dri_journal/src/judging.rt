@@ -1,0 +1,264 @@
+//! Whether an entry is legal, by what is kept of the world before it: a condition after the other, and the first that
+//! isn't met is the answer.
+
+ghost use Rattle.std.specs.Prelude.{◌≡◌, ◌≤◌, ◌+◌, ◌==◌, ◌&&◌, ◌||◌, not, is_none, length, nat_le, Some, true, [], ◌∷◌, ◌<◌};
+ghost use Rattle.dri_base.specs.Limits.{last_age};
+ghost use Rattle.dri_base.specs.Scenes.{bytes_of, kills_in, regions_for};
+ghost use Rattle.dri_base.specs.Texels.{texture_in};
+ghost use Rattle.dri_client.specs.Activities.{phase_in};
+ghost use Rattle.dri_client.specs.Parts.{next_command};
+ghost use Rattle.dri_core.specs.Decide.{is_die};
+ghost use Rattle.dri_core.specs.Phases.{Ask, Asking, In, Old, Out, Over, is_done, is_holding, same_phase};
+ghost use Rattle.dri_core.specs.Privates.{can_run, is_ready_for, is_triangle, textured_with};
+ghost use Rattle.dri_journal.specs.Replays.{allows};
+ghost use Rattle.dri_model.specs.Groups.{bits, is_empty, same_number};
+ghost use Rattle.dri_model.specs.Heaps.{is_place_for};
+ghost use Rattle.dri_texheap.specs.Placements.{placed_of};
+ghost use Rattle.dri_texheap.specs.RegionStates.{heap_of};
+
+use crate::marks::Marks;
+use crate::refusal::Refusal;
+use dri_base::{ClientScript, Command, Item, Texture};
+use dri_client::{Activity, ClientPart};
+use dri_texheap::{Regions, Run};
+
+/// The refusal, where a condition isn't met.
+fn require(is_met: bool, refusal: Refusal) -> Result<(), Refusal>
+    ensures { allows result ≡ is_met }
+{
+    if is_met { Ok(()) } else { Err(refusal) }
+}
+
+/// Whether a client is in a phase.
+fn is_in(part: &ClientPart, activity: Activity) -> bool
+    ensures { result ≡ same_phase part.now.phase (phase_in activity) }
+{
+    part.activity() == activity
+}
+
+/// Whether a client has ended or is dead.
+pub fn is_done(part: &ClientPart) -> bool
+    ensures { result ≡ is_done part.now.phase }
+{
+    match part.activity() {
+        Activity::Ended | Activity::Dead => true,
+        _ => false,
+    }
+}
+
+/// Whether a client holds.
+fn is_holding(part: &ClientPart) -> bool
+    ensures { result ≡ is_holding part.now.phase }
+{
+    match part.activity() {
+        Activity::Old | Activity::In | Activity::Over | Activity::Ask => true,
+        _ => false,
+    }
+}
+
+/// Whether the client's next command is a triangle.
+fn is_at_triangle(part: &ClientPart, script: &ClientScript) -> bool
+    ensures { result ≡ is_triangle (next_command script.now part.now) }
+{
+    match part.next_command(script) {
+        Some(Command::Triangle(_)) => true,
+        _ => false,
+    }
+}
+
+/// Whether the client's next command is `die`.
+fn is_at_die(part: &ClientPart, script: &ClientScript) -> bool
+    ensures { result ≡ is_die (next_command script.now part.now) }
+{
+    match part.next_command(script) {
+        Some(Command::Die) => true,
+        _ => false,
+    }
+}
+
+/// A light take.
+pub fn light(part: &ClientPart, marks: Marks, client: u32) -> Result<(), Refusal>
+    requires { client ≤ 32 }
+    ensures { allows result ≡ (same_phase part.now.phase Out && (is_none marks.holder && (marks.left == client + 1))) }
+{
+    require(is_in(part, Activity::Out), Refusal::WrongPhase)?;
+    require(marks.holder.is_none(), Refusal::Held)?;
+    require(marks.left == client + 1, Refusal::NotTheLast)
+}
+
+/// A take through the kernel.
+pub fn kernel(part: &ClientPart, marks: Marks, client: u32, found: u32) -> Result<(), Refusal>
+    requires { client ≤ 32 }
+    ensures { allows result ≡ (same_phase part.now.phase Out && (is_none marks.holder && (((found == 0) || (found == marks.left)) && not (found == client + 1)))) }
+{
+    require(is_in(part, Activity::Out), Refusal::WrongPhase)?;
+    require(marks.holder.is_none(), Refusal::Held)?;
+    require(found == 0 || found == marks.left, Refusal::WrongContext)?;
+    require(found != client + 1, Refusal::WrongContext)
+}
+
+/// A client says that its stamp is old.
+pub fn stale(part: &ClientPart) -> Result<(), Refusal>
+    ensures { allows result ≡ same_phase part.now.phase Old }
+{
+    require(is_in(part, Activity::Old), Refusal::WrongPhase)
+}
+
+/// A leave.
+pub fn leave(part: &ClientPart) -> Result<(), Refusal>
+    ensures { allows result ≡ (same_phase part.now.phase Over || same_phase part.now.phase Ask) }
+{
+    let is_over = is_in(part, Activity::Over);
+    let is_asking = is_in(part, Activity::Ask);
+    require(is_over || is_asking, Refusal::WrongPhase)
+}
+
+/// A client is told of its window.
+pub fn info(part: &ClientPart, marks: Marks) -> Result<(), Refusal>
+    ensures { allows result ≡ (same_phase part.now.phase Asking && is_none marks.holder) }
+{
+    require(is_in(part, Activity::Asking), Refusal::WrongPhase)?;
+    require(marks.holder.is_none(), Refusal::Held)
+}
+
+/// A change, of so many.
+pub fn change(marks: Marks, changes: usize, place: u32) -> Result<(), Refusal>
+    requires { marks.made ≤ 4096 }
+    ensures { allows result ≡ (is_none marks.holder && ((place == marks.made + 1) && nat_le place changes)) }
+{
+    require(marks.holder.is_none(), Refusal::Held)?;
+    require(place == marks.made + 1, Refusal::NoSuchChange)?;
+    require(place as usize <= changes, Refusal::NoSuchChange)
+}
+
+/// Groups of registers are loaded.
+pub fn emit(part: &ClientPart, script: &ClientScript, groups: u8) -> Result<(), Refusal>
+    ensures { allows result ≡ (same_phase part.now.phase In && (is_triangle (next_command script.now part.now) && (is_ready_for (placed_of part.now.placed) (textured_with part.now.state) && ((groups == bits part.now.dirty) && not (is_empty part.now.dirty))))) }
+{
+    require(is_in(part, Activity::In), Refusal::WrongPhase)?;
+    require(is_at_triangle(part, script), Refusal::NoTriangle)?;
+    require(part.is_ready(), Refusal::NotPlaced)?;
+    let dirty = part.dirty();
+    require(groups == dirty.bits(), Refusal::WrongGroups)?;
+    require(!dirty.is_empty(), Refusal::WrongGroups)
+}
+
+/// A command runs.
+pub fn run(part: &ClientPart, script: &ClientScript, place: u32) -> Result<(), Refusal>
+    ensures { allows result ≡ (same_phase part.now.phase In && ((place == part.now.place) && can_run (is_empty part.now.dirty && is_ready_for (placed_of part.now.placed) (textured_with part.now.state)) (next_command script.now part.now))) }
+{
+    require(is_in(part, Activity::In), Refusal::WrongPhase)?;
+    require(place == part.place(), Refusal::WrongPlace)?;
+    match part.next_command(script) {
+        None | Some(Command::Die) => Err(Refusal::NoCommand),
+        Some(Command::Triangle(_)) => require(part.can_draw(), Refusal::NotEmitted),
+        Some(_) => Ok(()),
+    }
+}
+
+/// Whether an item of the schedule kills the client.
+fn is_named(items: &[Item], client: u32) -> bool
+    ensures { result ≡ kills_in items.now client }
+{
+    for item in items {
+        if is_kill(*item, client) {
+            return true;
+        }
+    }
+    false
+}
+
+/// A client is gone.
+pub fn gone(
+    part: &ClientPart,
+    script: &ClientScript,
+    marks: Marks,
+    items: &[Item],
+) -> Result<(), Refusal>
+    ensures { allows result ≡ ((same_phase part.now.phase In && is_die (next_command script.now part.now)) || (kills_in items.now script.now.number && (not (is_done part.now.phase) && (is_holding part.now.phase || is_none marks.holder)))) }
+{
+    if is_in(part, Activity::In) && is_at_die(part, script) {
+        return Ok(());
+    }
+    require(is_named(items, script.number), Refusal::NotKilled)?;
+    require(!is_done(part), Refusal::NotKilled)?;
+    require(is_holding(part) || marks.holder.is_none(), Refusal::Held)
+}
+
+/// Whether an item kills the client.
+fn is_kill(item: Item, client: u32) -> bool
+    ensures { result ≡ kills_in (item ∷ []) client }
+{
+    match item {
+        Item::Kill { client: killed } => killed == client,
+        Item::Turn { actor: _ } => false,
+    }
+}
+
+/// How many regions of a size, 1 to 65,536 bytes, so many bytes take, at most 4,194,304.
+fn regions_for(size: u32, bytes: u32) -> u32
+    requires some { 0 < size }
+    requires size { size ≤ 65536 }
+    requires bytes { bytes ≤ 4194304 }
+    ensures { result ≡ regions_for size bytes }
+{
+    (bytes + (size - 1)) / size
+}
+
+/// How many bytes the texture with this number has; none where it isn't there.
+fn texture_bytes(textures: &[Texture], number: u32) -> usize
+    ensures { result ≡ length (bytes_of (texture_in textures.now number)) }
+{
+    for texture in textures {
+        if texture.number == number {
+            return texture.bytes.len();
+        }
+    }
+    0
+}
+
+/// Whether the client's triangles need this texture.
+fn needs(part: &ClientPart, texture: u32) -> bool
+    ensures { result ≡ same_number (textured_with part.now.state) (Some texture) }
+{
+    match part.texture_used() {
+        Some(used) => used == texture,
+        None => false,
+    }
+}
+
+/// Whether a run is the one for so many regions by the rule.
+fn is_run(regions: &Regions, needed: u32, run: Run) -> bool
+    requires some { 1 ≤ needed }
+    requires enough { needed ≤ regions.now.count }
+    requires age { (heap_of regions.now).global ≤ last_age }
+    ensures { result ≡ ((run.count == needed) && is_place_for regions.now.count (heap_of regions.now) run.count run.first) }
+{
+    run.count == needed && run.first == regions.place_for(needed)
+}
+
+/// A texture is placed in a run of regions, each of so many bytes.
+pub fn place(
+    part: &ClientPart,
+    script: &ClientScript,
+    regions: &Regions,
+    size: u32,
+    texture: u32,
+    run: Run,
+) -> Result<(), Refusal>
+    requires some { 0 < size }
+    requires size { size ≤ 65536 }
+    requires bytes { length (bytes_of (texture_in script.now.textures texture)) ≤ 4194304 }
+    requires needed { regions_for size (length (bytes_of (texture_in script.now.textures texture))) ≤ regions.now.count }
+    requires there { same_number (textured_with part.now.state) (Some texture) ≡ true → 0 < length (bytes_of (texture_in script.now.textures texture)) }
+    requires age { (heap_of regions.now).global ≤ last_age }
+    ensures { allows result ≡ (same_phase part.now.phase In && (is_triangle (next_command script.now part.now) && (same_number (textured_with part.now.state) (Some texture) && (is_none (placed_of part.now.placed texture) && ((run.count == regions_for size (length (bytes_of (texture_in script.now.textures texture)))) && is_place_for regions.now.count (heap_of regions.now) run.count run.first))))) }
+{
+    require(is_in(part, Activity::In), Refusal::WrongPhase)?;
+    require(is_at_triangle(part, script), Refusal::NoTriangle)?;
+    require(needs(part, texture), Refusal::WrongTexture)?;
+    require(part.resident(texture).is_none(), Refusal::WrongTexture)?;
+    let bytes = texture_bytes(script.textures.as_slice(), texture) as u32;
+    let needed = regions_for(size, bytes);
+    require(is_run(regions, needed, run), Refusal::WrongRun)
+}

@@ -1,0 +1,69 @@
+//! What an entry does to the windows.
+
+ghost use Rattle.std.specs.Prelude.{◌≡◌, ◌≢◌, ◌≤◌, IfOk, IfSome, IfNone, OnOk, OnErr};
+ghost use Rattle.dri_base.specs.Limits.{last_stamp};
+ghost use Rattle.dri_clips.specs.Boards.{IsRestacked};
+ghost use Rattle.dri_clips.specs.Paints.{IsTouched};
+ghost use Rattle.dri_clips.specs.declared.change.ChangeFault.{ChangeFault};
+ghost use Rattle.dri_model.specs.Stacks.{stack_after, without_owner};
+
+use dri_base::{Change, OutOfMemory, Steps};
+use dri_clips::{Board, ChangeFault, Touched};
+use std::alloc::Global;
+use std::sync::ledger::{Blank, Ledger};
+
+/// Why a change wasn't made: a refusal by the board touches nothing, want of memory isn't one.
+fn refused(fault: ChangeFault) -> Result<(), OutOfMemory>
+    ensures { OnOk result (fault ≢ ChangeFault.OutOfMemory) }
+{
+    match fault {
+        ChangeFault::OutOfMemory => Err(OutOfMemory),
+        _ => Ok(()),
+    }
+}
+
+/// Makes a change of the windows, and tells what it touched; none where the board refuses it, which changes nothing. The
+/// steps are counted from the blank on.
+pub fn change_windows<L: Ledger>(
+    blank: Blank,
+    alloc: Global,
+    board: &mut Board,
+    change: &Change,
+) -> Result<Option<Touched>, OutOfMemory>
+    requires name { blank.name ≡ L.name }
+    requires parts { blank.parts ≡ L.parts }
+    requires one { L.parts ≡ 1 }
+    requires counter { board.old.counter ≤ last_stamp }
+    ensures ok { OnOk result (IsRestacked (stack_after change.now board.old.stack) board.old board.new) }
+    ensures touched { IfOk result (λ told. IfSome told (IsTouched board.old (stack_after change.now board.old.stack))) }
+    ensures refused { IfOk result (λ told. IfNone told (stack_after change.now board.old.stack ≡ board.old.stack)) }
+    ensures err { OnErr result (board.new ≡ board.old) }
+{
+    let mut steps = Steps::<L>::new(blank);
+    match board.apply(alloc, change, &mut steps) {
+        Ok(touched) => Ok(Some(touched)),
+        Err(fault) => {
+            refused(fault)?;
+            Ok(None)
+        }
+    }
+}
+
+/// Unmaps the windows of an owner, and tells what that touched. The steps are counted from the blank on.
+pub fn unmap_windows<L: Ledger>(
+    blank: Blank,
+    alloc: Global,
+    board: &mut Board,
+    owner: u32,
+) -> Result<Touched, OutOfMemory>
+    requires name { blank.name ≡ L.name }
+    requires parts { blank.parts ≡ L.parts }
+    requires one { L.parts ≡ 1 }
+    requires counter { board.old.counter ≤ last_stamp }
+    ensures ok { OnOk result (IsRestacked (without_owner owner board.old.stack) board.old board.new) }
+    ensures touched { IfOk result (IsTouched board.old (without_owner owner board.old.stack)) }
+    ensures err { OnErr result (board.new ≡ board.old) }
+{
+    let mut steps = Steps::<L>::new(blank);
+    board.unmap_owner(alloc, owner, &mut steps)
+}
