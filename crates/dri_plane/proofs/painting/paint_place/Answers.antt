@@ -1,5 +1,5 @@
 -- The pair is painted, or stays.
-use Rattle.std.proofs.Common.{◌≡◌, Some, None, get_or, slice_set, if◌then◌else◌, subst, sym}
+use Rattle.std.proofs.Common.{◌≡◌, Some, None, get_or, slice_set, subst, sym}
 use Rattle.dri_base.specs.declared.colour.Rgb.{Rgb}
 use Rattle.dri_base.specs.declared.colour.Pixel.{Pixel}
 use Rattle.dri_plane.specs.Runs.{HoldPairs, grid, place_painted}
