@@ -50,6 +50,16 @@ fn place_of(width: usize, height: usize, x: u16, y: u16) -> usize
     usize::from(y) * width + usize::from(x)
 }
 
+/// Writes a colour channel by channel, so that none of them is shifted into a word first.
+#[inline(always)]
+fn set_colour(to: &mut Rgb, colour: Rgb)
+    ensures { to.new ≡ colour }
+{
+    to.r = colour.r;
+    to.g = colour.g;
+    to.b = colour.b;
+}
+
 /// Paints the place where the painter stands. It takes two steps where the pair stays, and four where it is painted.
 #[inline(always)]
 fn paint_place<P: Painter, L: Ledger>(
@@ -81,7 +91,7 @@ fn paint_place<P: Painter, L: Ledger>(
     };
     count(READS, steps);
     if let Some(pixel) = painter.paint(x, under) {
-        colours[place] = pixel.colour;
+        set_colour(&mut colours[place], pixel.colour);
         depths[place] = pixel.depth;
         count(WRITES, steps);
     }

@@ -1,8 +1,8 @@
 -- The pair is painted, or stays.
-use Rattle.std.proofs.Common.{◌≡◌, Some, None, get_or, slice_set}
+use Rattle.std.proofs.Common.{◌≡◌, Some, None, get_or, slice_set, subst, sym}
 use Rattle.dri_base.specs.declared.colour.Rgb.{Rgb}
 use Rattle.dri_base.specs.declared.colour.Pixel.{Pixel}
-use Rattle.dri_plane.specs.Runs.{grid}
+use Rattle.dri_plane.specs.Runs.{HoldPairs, grid, place_painted}
 use Rattle.dri_plane.proofs.Painted.{pair_listed, pair_set, stayed_painted, written_painted}
 use Rattle.dri_plane.proofs.painting.paint_place.Goals as goal
 
@@ -15,9 +15,11 @@ returns-in-Some-clause-pairs g c = λ f holds.
     let black : Rgb = record { r = 0; g = 0; b = 0 } in
     let under : Pixel = record { colour = get_or c.args.colours.now place black; depth = get_or c.args.depths.now place 0 } in
     let is : Some pixel ≡ g.P.Painter.paints c.args.painter.now c.args.x under = c.in-Some.ensures in
+    let held : HoldPairs (grid w h (slice_set c.args.colours.now place pixel.colour)) (grid w h (slice_set c.args.depths.now place pixel.depth)) (place_painted (g.P.Painter.paints c.args.painter.now) c.args.x c.args.y f) =
     written_painted (grid w h (slice_set c.args.colours.now place pixel.colour)) (grid w h (slice_set c.args.depths.now place pixel.depth)) c.args.x c.args.y (g.P.Painter.paints c.args.painter.now) under pixel f
     (pair_listed w h c.args.colours.now c.args.depths.now f c.args.x c.args.y place black 0 c.place_of-place.ensures.value c.requires.column c.requires.row holds) is
-    (pair_set w h c.args.colours.now c.args.depths.now f c.args.x c.args.y place pixel c.place_of-place.ensures.value c.requires.column c.requires.row holds)
+    (pair_set w h c.args.colours.now c.args.depths.now f c.args.x c.args.y place pixel c.place_of-place.ensures.value c.requires.column c.requires.row holds) in
+    subst (λ v. HoldPairs (grid w h (slice_set c.args.colours.now place v)) (grid w h (slice_set c.args.depths.now place pixel.depth)) (place_painted (g.P.Painter.paints c.args.painter.now) c.args.x c.args.y f)) (sym c.set_colour.ensures) held
 
 pub returns-in_default-clause-pairs : goal.returns-in_default-clause-pairs
 returns-in_default-clause-pairs g c = λ f holds.

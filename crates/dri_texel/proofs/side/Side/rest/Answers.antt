@@ -1,5 +1,5 @@
 -- The product by the reciprocal has the quotient above 2^32.
-use Rattle.std.proofs.Common.{◌≡◌, ◌%◌, ◌<◌, ap, ◌∙◌, subst, sym, arith}
+use Rattle.std.proofs.Common.{◌%◌, ◌<◌, ap, ◌∙◌, subst, arith}
 use Rattle.std.proofs.lemmas.Nat.{mod_below}
 use Rattle.dri_texel.proofs.Reciprocals.{rest_is}
 use Rattle.dri_texel.proofs.side.Side.rest.Goals as goal
