@@ -1,16 +1,21 @@
-//! The text of a journal: a reader and a printer that are each other's inverse.
+//! The text of a journal: a reader and a printer that are each other's inverse. And its check: whether the entries are a
+//! run of a scene.
 //!
 //! A line passes two stages. Its words make a `Form`, which has the numbers as they are written, of any size; and the form
 //! with its numbers in range is an entry. So the reasons come in their order: shape, and then range. Whether the entries
-//! are a run of a scene isn't asked here.
+//! are a run of a scene isn't asked there.
 #![tactic(auto)]
 
+mod answer;
+mod checking;
 mod entry;
 mod fault;
 mod form;
 mod print;
 mod read;
 
+pub use answer::{CheckFault, Report};
+pub use checking::check;
 pub use fault::JournalFault;
 pub use print::print_journal;
 pub use read::read_journal;

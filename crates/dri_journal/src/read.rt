@@ -1,7 +1,8 @@
 //! The reader of a journal's text: one pass over the lines, up to the title, up to `done`, and to the end.
 
-ghost use Rattle.std.specs.Prelude.{◌≡◌, ◌≤◌, ◌+◌, length, IfOk, Err, MatchResult};
+ghost use Rattle.std.specs.Prelude.{◌≡◌, ◌<◌, ◌≤◌, ◌+◌, length, IfOk, Err, MatchResult};
 ghost use Rattle.std.specs.Str.{bytes_eq};
+ghost use Rattle.dri_base.specs.Limits.{word_end};
 ghost use Rattle.dri_journal.specs.Readings.{Gives, entries_from, journal_of_text, titled_from};
 ghost use Rattle.dri_words.specs.Lines.{text_size};
 
@@ -49,7 +50,8 @@ fn up_to_title(lines: &mut Parts<'_>) -> Result<u32, Refusal>
 /// The entries up to `done`, and the end. The first line that is left has the number `first`.
 fn entries_from(alloc: Global, mut lines: Parts<'_>, first: u32) -> Result<Entries, JournalFault>
     requires { first + text_size lines ≤ 4294967296 }
-    ensures { Gives result (entries_from first lines.entry) }
+    ensures gives { Gives result (entries_from first lines.entry) }
+    ensures few { IfOk result (λ entries. length entries < word_end) }
 {
     let mut entries = Entries::new(alloc);
     let mut number = first;
@@ -82,11 +84,12 @@ fn entries_from(alloc: Global, mut lines: Parts<'_>, first: u32) -> Result<Entri
 
 /// The journal that the bytes spell, at most 4,294,967,294 of them. Nothing but lines that are passed over may follow its
 /// `done` line. It is refused exactly where the grammar has no such text, with the first line that is refused and the first
-/// reason for it. Whether the entries are a run of a scene isn't asked.
+/// reason for it. The journal has fewer than 4,294,967,296 entries. Whether they are a run of a scene isn't asked.
 #[tactic(auto, unfolding(crate::specs::Readings::journal_of_text), using(dri_words::proofs::TextSizes::text_size_split))]
 pub fn read_journal(alloc: Global, bytes: &[u8]) -> Result<Entries, JournalFault>
     requires { length bytes.now ≤ 4294967294 }
-    ensures { Gives result (journal_of_text bytes.now) }
+    ensures gives { Gives result (journal_of_text bytes.now) }
+    ensures few { IfOk result (λ entries. length entries < word_end) }
 {
     let mut lines = Parts::new(bytes, b'\n');
     let first = up_to_title(&mut lines)?;

@@ -9,6 +9,7 @@ abbrev pub invariant-loop-line : goal.invariant-loop-line
 invariant-loop-line l = record {
   judged : behind l.entries (entries_from l.number l.lines) ≡ entries_from l.first l.fn.lines;
   room : l.number + text_size l.lines ≤ 4294967296;
+  few : length l.entries ≤ l.number;
 }
 
 abbrev pub decreases-loop-line : goal.decreases-loop-line
