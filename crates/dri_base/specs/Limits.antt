@@ -14,6 +14,14 @@ last_stamp = 4294967231
 abbrev pub last_age : ℕ
 last_age = 4294967000
 
+-- the most pixels along a side of the screen or of a window; so far a window's corner may lie from the screen's
+abbrev pub most_side : ℕ
+most_side = 1024
+
+-- how far from its window's corner a scissor may reach: to what lies beyond the largest window
+abbrev pub most_scissor : ℕ
+most_scissor = 2048
+
 -- the most commands of all clients together
 abbrev pub most_commands : ℕ
 most_commands = 100000

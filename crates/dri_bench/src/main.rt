@@ -1,11 +1,17 @@
 //! The program that the benchmark times: parts of the repository, each run a number of times.
 #![tactic(auto)]
 
+mod boards;
 mod contend;
+mod drawing;
 mod opened;
 mod pairs;
+mod regions;
 mod tally;
 
+use crate::boards::Arrangement;
+use crate::drawing::Work;
+use crate::regions::Operation;
 use std::process::ExitCode;
 use std::{env, io};
 
@@ -20,6 +26,43 @@ const NO_MEMORY: u8 = 7;
 enum Part {
     Pairs(u32),
     Contend(u32),
+    Drawing(Work, u32),
+    Regions(Operation, u32, u32, u32),
+    Boards(Arrangement, u32, u32),
+}
+
+/// An operation by its word.
+fn operation_of(word: &str) -> Option<Operation> {
+    match word {
+        "unite" => Some(Operation::Unite),
+        "subtract" => Some(Operation::Subtract),
+        "intersect" => Some(Operation::Intersect),
+        _ => None,
+    }
+}
+
+/// How windows stand, by a word.
+fn arrangement_of(word: &str) -> Option<Arrangement> {
+    match word {
+        "overlap" => Some(Arrangement::Overlapping),
+        "apart" => Some(Arrangement::Apart),
+        _ => None,
+    }
+}
+
+/// The part of a word with counts behind colons: an operation with two, an arrangement with one.
+fn part_with_counts(word: &str, times: u32) -> Option<Part> {
+    let (name, counts) = word.split_once(':')?;
+    if let Some(arrangement) = arrangement_of(name) {
+        return Some(Part::Boards(arrangement, counts.parse().ok()?, times));
+    }
+    let (first, second) = counts.split_once(':')?;
+    Some(Part::Regions(
+        operation_of(name)?,
+        first.parse().ok()?,
+        second.parse().ok()?,
+        times,
+    ))
 }
 
 /// The part that two words name, a part and a number; `None` where they are of no form.
@@ -31,7 +74,10 @@ fn part_of(words: &[String]) -> Option<Part> {
     match words[0].as_str() {
         "pairs" => Some(Part::Pairs(times)),
         "contend" => Some(Part::Contend(times)),
-        _ => None,
+        name => match Work::of(name) {
+            Some(work) => Some(Part::Drawing(work, times)),
+            None => part_with_counts(name, times),
+        },
     }
 }
 
@@ -49,12 +95,21 @@ fn main(rt: HostRuntime) -> io::Result<ExitCode> {
     let words = words_of(&rt)?;
     for words in words.as_slice().chunks(2) {
         let Some(part) = part_of(words) else {
-            eprintln!(rt; "usage: dri_bench [pairs|contend times]..")?;
+            eprintln!(rt;
+                "usage: dri_bench [PART TIMES].., with PART pairs, contend, the name of a drawing, unite:N:N, subtract:N:N, intersect:N:N, overlap:N or apart:N"
+            )?;
             return Ok(ExitCode::from(USAGE));
         };
         let left = match part {
             Part::Pairs(times) => pairs::run(&rt, rt.alloc(), times),
             Part::Contend(times) => contend::run(&rt, rt.alloc(), times),
+            Part::Drawing(work, times) => drawing::run(rt.alloc(), work, times),
+            Part::Regions(operation, first, second, times) => {
+                regions::run(rt.alloc(), operation, first, second, times)
+            }
+            Part::Boards(arrangement, count, times) => {
+                boards::run(rt.alloc(), arrangement, count, times)
+            }
         };
         let Some(left) = left else {
             return Ok(ExitCode::from(NO_MEMORY));

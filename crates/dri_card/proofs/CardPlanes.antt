@@ -12,8 +12,9 @@ use Rattle.dri_base.specs.declared.shape.Triangle.{Triangle}
 use Rattle.dri_base.specs.Planes.{plane, in_rect}
 use Rattle.dri_plane.specs.Grids.{Grid, Becomes}
 use Rattle.dri_card.specs.Contents.{Contents, Holds}
-use Rattle.dri_card.specs.Drawing.{OnlyDrawn, after_triangle, after_triangles, drawn}
-use Rattle.dri_card.specs.Alike.{pairs_same}
+use Rattle.dri_card.specs.Drawing.{OnlyDrawn, after_triangle, after_triangles, covered_centres, drawn}
+use Rattle.dri_walk.specs.Clips.{covered_places}
+use Rattle.dri_plane.specs.Alike.{pairs_same}
 
 -- one plane, where it is known what it shows
 pub shows_change : (old new : Grid Rgb) (change : (ℕ → ℕ → Rgb) → ℕ → ℕ → Rgb) (g : ℕ → ℕ → Rgb) → new.width ≡ old.width → new.height ≡ old.height → Becomes old new change
@@ -55,3 +56,18 @@ drawn_twice old mid new first second = second ∙ ap (λ (v : Contents). record 
 -- one triangle alone
 pub triangle_alone : (old new : Contents) (origin : Point) (t : Triangle) (f : ℕ → ℕ → Pixel) → Holds new (after_triangles old origin (t ∷ []) f) → Holds new (after_triangle old origin t f)
 triangle_alone old new origin t f holds = holds
+
+-- the centres of one triangle more, on a card of the same clip
+pub centres_more : (old mid : Contents) (origin : Point) (ts : List Triangle) (i : ℕ) (t : Triangle) → OnlyDrawn old mid → slice_get ts i ≡ Some t
+    → covered_centres old origin (take (i + 1) ts) ≡ covered_centres old origin (take i ts) + covered_places t mid.clip origin
+centres_more old mid origin ts i t only is =
+    ap (λ us. covered_centres old origin us) longer
+    ∙ fold-append (λ n u. n + covered_places u old.clip origin) 0 (take i ts) (t ∷ [])
+    ∙ ap (λ (v : Contents). covered_centres old origin (take i ts) + covered_places t v.clip origin) (sym only)
+  where
+    longer : take (i + 1) ts ≡ take i ts ++ (t ∷ [])
+    longer = rw (add-one i) (take-suc ts i t (slice_get_within ts i t is) ∙ ap (λ u. take i ts ++ (u ∷ [])) (get_or_from_slice_get ts i t t is))
+
+-- and those of all
+pub centres_all : (v : Contents) (origin : Point) (ts : List Triangle) (i : ℕ) → length ts ≤ i → covered_centres v origin (take i ts) ≡ covered_centres v origin ts
+centres_all v origin ts i all = ap (λ us. covered_centres v origin us) (take_all i ts all)

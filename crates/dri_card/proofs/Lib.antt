@@ -1,5 +1,3 @@
-pub mod PairPlanes
-pub mod Painted
 pub mod Stacked
 pub mod Bytes
 pub mod CardPlanes

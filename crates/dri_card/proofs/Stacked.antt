@@ -3,14 +3,14 @@ use Rattle.std.proofs.Common.{◌≡◌, ℕ, List, ◌∷◌, Bool, true, false
 use Rattle.dri_base.specs.declared.colour.Rgb.{Rgb}
 use Rattle.dri_base.specs.declared.scene.Window.{Window}
 use Rattle.dri_base.specs.declared.shape.ClipRect.{ClipRect}
-use Rattle.dri_model.specs.Stacks.{ground_colour, has_pixel, top}
+use Rattle.dri_model.specs.Stacks.{ground_colour, window_has, top}
 use Rattle.dri_base.specs.Planes.{in_rect}
 use Rattle.dri_plane.specs.Grids.{Grid, Becomes}
 use Rattle.dri_base.proofs.PlaneLists.{plane_same}
 use Rattle.dri_card.specs.Openings.{IsCut, ShowsStack}
 
 -- the topmost window of one on others
-over : (root : Rgb) (w : Window) (ws : List Window) (x y : ℕ) (b : Bool) → w.mapped ≡ true → has_pixel w x y ≡ b
+over : (root : Rgb) (w : Window) (ws : List Window) (x y : ℕ) (b : Bool) → w.mapped ≡ true → window_has w x y ≡ b
     → (if b then w.background else ground_colour root (top ws x y)) ≡ ground_colour root (top (w ∷ ws) x y)
 over root w ws x y true mapped here = rw (mapped, here) refl
 over root w ws x y false mapped here = rw (mapped, here) refl
@@ -21,9 +21,9 @@ pub window_painted : (root : Rgb) (w : Window) (ws : List Window) (old new : Gri
     → ShowsStack root ws old → ShowsStack root (w ∷ ws) new
 window_painted root w ws old new rect mapped wide high cut becomes shows =
     rw (wide, high) (becomes (λ x y. ground_colour root (top ws x y)) shows ∙ plane_same old.width old.height _ _ (λ x y lx ly.
-    ap (λ b. if b then w.background else ground_colour root (top ws x y)) (cut x y lx ly) ∙ over root w ws x y (has_pixel w x y) mapped refl))
+    ap (λ b. if b then w.background else ground_colour root (top ws x y)) (cut x y lx ly) ∙ over root w ws x y (window_has w x y) mapped refl))
 
 -- a window that isn't mapped
 pub window_hidden : (root : Rgb) (w : Window) (ws : List Window) (g : Grid Rgb) → w.mapped ≡ false → ShowsStack root ws g → ShowsStack root (w ∷ ws) g
 window_hidden root w ws g hidden shows =
-    shows ∙ plane_same g.width g.height _ _ (λ x y lx ly. sym (ap (λ b. ground_colour root (if b && has_pixel w x y then Some w else top ws x y)) hidden))
+    shows ∙ plane_same g.width g.height _ _ (λ x y lx ly. sym (ap (λ b. ground_colour root (if b && window_has w x y then Some w else top ws x y)) hidden))

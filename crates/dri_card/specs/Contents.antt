@@ -11,6 +11,7 @@ use Rattle.dri_base.specs.States.{default_state}
 use Rattle.dri_model.specs.Stacks.{ground_colour, top}
 use Rattle.dri_model.specs.Words.{registers_for}
 use Rattle.dri_plane.specs.Grids.{Grid, IsInside}
+pub use Rattle.dri_plane.specs.Runs.{HoldPairs}
 
 -- front, back and depth, all of the card's sides; the registers; the texture memory; and the clip
 pub record Contents : Type 0 where
@@ -41,11 +42,6 @@ IsOnCard rect v = IsInside rect v.front.width v.front.height
 -- front shows these colours
 abbrev pub Shows : Contents → (ℕ → ℕ → Rgb) → Type 0
 Shows v f = v.front.pixels ≡ plane v.front.width v.front.height f
-
--- a plane of colours and a plane of depths hold these pairs
-pub record HoldPairs (back : Grid Rgb) (depth : Grid ℕ) (f : ℕ → ℕ → Pixel) : Type 0 where
-  pub colours : back.pixels ≡ plane back.width back.height (λ x y. (f x y).colour)
-  pub depths : depth.pixels ≡ plane depth.width depth.height (λ x y. (f x y).depth)
 
 -- back and depth hold these pairs
 abbrev pub Holds : Contents → (ℕ → ℕ → Pixel) → Type 0

@@ -1,5 +1,5 @@
 -- What the card's calls make of its pixels.
-use Rattle.std.specs.Prelude.{ℕ, ◌≡◌, List, fold, if◌then◌else◌, ℤ, pos, ◌-ℤ◌}
+use Rattle.std.specs.Prelude.{ℕ, ◌≡◌, List, fold, sum_by, if◌then◌else◌, ℤ, pos, ◌-ℤ◌}
 use Rattle.dri_base.specs.declared.colour.Rgb.{Rgb}
 use Rattle.dri_base.specs.declared.colour.Pixel.{Pixel}
 use Rattle.dri_base.specs.declared.shape.ClipRect.{ClipRect}
@@ -13,6 +13,7 @@ use Rattle.dri_base.specs.Planes.{in_rect}
 use Rattle.dri_card.specs.declared.faults.DispatchFault.{DispatchFault}
 use Rattle.dri_card.specs.declared.faults.DispatchFault.TheVariants.{BadWord}
 use Rattle.dri_card.specs.Contents.{Contents, memory_of}
+use Rattle.dri_walk.specs.Clips.{covered_places}
 
 -- the pair that a triangle leaves at the window's pixel (x, y), by the card's registers and texture memory
 abbrev pub drawn : Contents → Triangle → ℤ → ℤ → Pixel → Pixel
@@ -25,6 +26,10 @@ after_triangle v origin t f x y = if in_rect v.clip x y then drawn v t (pos x -�
 -- the pairs after triangles, drawn so one after another
 abbrev pub after_triangles : Contents → Point → List Triangle → (ℕ → ℕ → Pixel) → ℕ → ℕ → Pixel
 after_triangles v origin ts f x y = if in_rect v.clip x y then fold (λ under t. drawn v t (pos x -ℤ origin.x) (pos y -ℤ origin.y) under) (f x y) ts else f x y
+
+-- how many centres the triangles cover in the clip of the card, each triangle for itself
+abbrev pub covered_centres : Contents → Point → List Triangle → ℕ
+covered_centres v origin ts = sum_by (λ t. covered_places t v.clip origin) ts
 
 -- the pairs after a rectangle is cleared
 abbrev pub cleared : ClipRect → Rgb → ℕ → (ℕ → ℕ → Pixel) → ℕ → ℕ → Pixel

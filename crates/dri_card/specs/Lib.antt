@@ -1,5 +1,4 @@
 pub mod Contents
-pub mod Alike
 pub mod Drawing
 pub mod Loading
 pub mod Invariants

@@ -10,9 +10,10 @@ ghost use Rattle.dri_base.specs.States.{default_state};
 ghost use Rattle.dri_model.specs.CommandWords.{IsTriangle, triangle_words, Buffer as IsBuffer};
 ghost use Rattle.dri_model.specs.Heaps.{uploaded};
 ghost use Rattle.dri_model.specs.Words.{registers_for};
-ghost use Rattle.dri_plane.specs.Grids.{area};
+ghost use Rattle.dri_plane.specs.Grids.{pixel_count};
 ghost use Rattle.dri_card.specs.Contents.{Holds, IsOnCard, IsOpening, KeepSides, Shows, memory_of};
-ghost use Rattle.dri_card.specs.Drawing.{IsDispatchFault, OnlyDrawn, OnlyShown, after_triangle, after_triangles, cleared, painted, swapped};
+ghost use Rattle.dri_card.specs.Drawing.{IsDispatchFault, OnlyDrawn, OnlyShown, after_triangle, after_triangles, cleared, covered_centres, painted, swapped};
+ghost use Rattle.dri_walk.specs.Clips.{covered_places};
 ghost use Rattle.dri_card.specs.Loading.{CanLoad, IsLoadFault, registers_after};
 ghost use Rattle.dri_card.specs.declared.faults.OutsideCard.TheVariants.{Base, Clip};
 
@@ -109,8 +110,9 @@ impl Card {
 
     /// Draws the triangles of the buffer in order, each at every pixel of the clip by the pixel rule, with the card's
     /// registers and texture memory. The window's pixel is the screen's less the origin, the window's upper left corner,
-    /// whose coordinates are -1,024 to 1,024. `BadWord` comes exactly where the buffer's words spell no triangles, and
-    /// then nothing is drawn.
+    /// whose coordinates are -1,024 to 1,024. For each triangle it takes at most four steps for each centre of the clip that
+    /// the triangle covers; a scissor only leaves some out. `BadWord` comes exactly where the buffer's words spell no
+    /// triangles, and then nothing is drawn.
     pub fn dispatch<L: Ledger>(
         &mut self,
         buffer: &Buffer,
@@ -124,6 +126,7 @@ impl Card {
         ensures one { (t : Triangle) → IsTriangle t → buffer.now ≡ triangle_words t → IsOk result × ((f : ℕ → ℕ → Pixel) → Holds self.old f → Holds self.new (after_triangle self.old origin t f)) }
         ensures others { OnlyDrawn self.old self.new }
         ensures sides { KeepSides self.old self.new }
+        ensures bound { (b : IsBuffer buffer.now) → steps.new ≤ steps.old + 4 * covered_centres self.old origin b.triangles }
         ensures bad { IfErr result (IsDispatchFault buffer.now) }
         ensures err { OnErr result ((self.new ≡ self.old) × (steps.new ≡ steps.old)) }
     {
@@ -140,6 +143,7 @@ impl Card {
         ensures drawn { (f : ℕ → ℕ → Pixel) → Holds self.old f → Holds self.new (after_triangles self.old origin triangles.now f) }
         ensures others { OnlyDrawn self.old self.new }
         ensures sides { KeepSides self.old self.new }
+        ensures bound { steps.new ≤ steps.old + 4 * covered_centres self.old origin triangles.now }
     {
         for i in 0..triangles.len() {
             self.draw(&triangles.triangle(i), origin, steps);
@@ -154,6 +158,7 @@ impl Card {
         ensures drawn { (f : ℕ → ℕ → Pixel) → Holds self.old f → Holds self.new (after_triangle self.old origin triangle.now f) }
         ensures others { OnlyDrawn self.old self.new }
         ensures sides { KeepSides self.old self.new }
+        ensures bound { steps.new ≤ steps.old + 4 * covered_places triangle.now self.old.clip origin }
     {
         draw_triangle(
             &mut self.target,
@@ -180,7 +185,7 @@ impl Card {
         ensures ok { OnOk result ((f : ℕ → ℕ → Pixel) → Holds self.old f → Holds self.new (cleared rect colour depth f)) }
         ensures others { OnlyDrawn self.old self.new }
         ensures sides { KeepSides self.old self.new }
-        ensures cost { OnOk result (steps.new ≡ steps.old + 2 * area rect) }
+        ensures cost { OnOk result (steps.new ≡ steps.old + 2 * pixel_count rect) }
         ensures outside { IfErr result (λ outside. outside ≡ Clip rect) }
         ensures err { OnErr result ((self.new ≡ self.old) × (steps.new ≡ steps.old)) }
     {
@@ -201,7 +206,7 @@ impl Card {
         ensures ok { OnOk result ((f : ℕ → ℕ → Pixel) (shown : ℕ → ℕ → Rgb) → Holds self.old f → Shows self.old shown → Shows self.new (swapped rect f shown)) }
         ensures others { OnlyShown self.old self.new }
         ensures sides { KeepSides self.old self.new }
-        ensures cost { OnOk result (steps.new ≡ steps.old + 2 * area rect) }
+        ensures cost { OnOk result (steps.new ≡ steps.old + 2 * pixel_count rect) }
         ensures outside { IfErr result (λ outside. outside ≡ Clip rect) }
         ensures err { OnErr result ((self.new ≡ self.old) × (steps.new ≡ steps.old)) }
     {
@@ -246,7 +251,7 @@ impl Card {
         ensures ok { OnOk result ((shown : ℕ → ℕ → Rgb) → Shows self.old shown → Shows self.new (painted rect colour shown)) }
         ensures others { OnlyShown self.old self.new }
         ensures sides { KeepSides self.old self.new }
-        ensures cost { OnOk result (steps.new ≡ steps.old + area rect) }
+        ensures cost { OnOk result (steps.new ≡ steps.old + pixel_count rect) }
         ensures outside { IfErr result (λ outside. outside ≡ Clip rect) }
         ensures err { OnErr result ((self.new ≡ self.old) × (steps.new ≡ steps.old)) }
     {

@@ -1,16 +1,16 @@
 //! What triangles are drawn on: the back plane and the depth plane, a pair of colour and depth for each place.
 
-ghost use Rattle.std.specs.Prelude.{◌≡◌, ◌<◌, ◌≤◌, ◌+◌, ◌-◌, ◌*◌, ℕ, if◌then◌else◌, IfOk};
+ghost use Rattle.std.specs.Prelude.{◌≡◌, ◌≤◌, ◌+◌, ◌-◌, ◌*◌, ℕ, IfOk};
 ghost use Rattle.dri_base.specs.declared.colour.Pixel.{Pixel};
 ghost use Rattle.dri_base.specs.Ranges.{IsSide};
-ghost use Rattle.dri_plane.specs.Grids.{area, is_place, IsInside};
+ghost use Rattle.dri_plane.specs.Grids.{pixel_count, IsInside};
 ghost use Rattle.dri_card.specs.Contents.{HoldPairs, blank};
 ghost use Rattle.dri_card.specs.Drawing.{cleared};
-ghost use Rattle.dri_walk.specs.Surfaces.{left_by, run_painted};
+ghost use Rattle.dri_plane.specs.Runs.{run_painted};
 
-use dri_base::{ClipRect, OutOfMemory, Pixel, Rgb, Steps};
-use dri_plane::Plane;
-use dri_walk::{Painter, Surface};
+use dri_base::{ClipRect, OutOfMemory, Rgb, Steps};
+use dri_plane::{Painter, Plane, paint_row};
+use dri_walk::Surface;
 use std::alloc::Global;
 use std::sync::ledger::Ledger;
 
@@ -37,48 +37,6 @@ impl Target {
         Ok(Target { back, depth })
     }
 
-    /// The pair at a place. It takes two steps.
-    fn get<L: Ledger>(&self, x: u32, y: u32, steps: &mut Steps<L>) -> Pixel
-        requires column { x < self.now.back.width }
-        requires row { y < self.now.back.height }
-        ensures pair { (f : ℕ → ℕ → Pixel) → HoldPairs self.now.back self.now.depth f → result ≡ f x y }
-        ensures cost { steps.new ≡ steps.old + 2 }
-    {
-        Pixel {
-            colour: self.back.get(x, y, steps),
-            depth: self.depth.get(x, y, steps),
-        }
-    }
-
-    /// Writes the pair at a place. It takes two steps.
-    fn put<L: Ledger>(&mut self, x: u32, y: u32, pixel: Pixel, steps: &mut Steps<L>)
-        requires column { x < self.old.back.width }
-        requires row { y < self.old.back.height }
-        ensures pairs { (f : ℕ → ℕ → Pixel) → HoldPairs self.old.back self.old.depth f → HoldPairs self.new.back self.new.depth (λ a b. if is_place x y a b then pixel else f a b) }
-        ensures width { self.new.back.width ≡ self.old.back.width }
-        ensures height { self.new.back.height ≡ self.old.back.height }
-        ensures cost { steps.new ≡ steps.old + 2 }
-    {
-        self.back.put(x, y, pixel.colour, steps);
-        self.depth.put(x, y, pixel.depth, steps);
-    }
-
-    /// Paints the place where the painter stands. It takes at most four steps.
-    fn paint<P: Painter, L: Ledger>(&mut self, x: u16, y: u16, painter: &P, steps: &mut Steps<L>)
-        requires column { x < self.old.back.width }
-        requires row { y < self.old.back.height }
-        requires ready { P.ready painter.now x }
-        ensures pairs { (f : ℕ → ℕ → Pixel) → HoldPairs self.old.back self.old.depth f → HoldPairs self.new.back self.new.depth (λ a b. if is_place x y a b then left_by (λ p. p) (P.paints painter.now a (f a b)) (f a b) else f a b) }
-        ensures width { self.new.back.width ≡ self.old.back.width }
-        ensures height { self.new.back.height ≡ self.old.back.height }
-        ensures cost { steps.new ≤ steps.old + 4 }
-    {
-        let under = self.get(u32::from(x), u32::from(y), steps);
-        if let Some(pixel) = painter.paint(x, under) {
-            self.put(u32::from(x), u32::from(y), pixel, steps);
-        }
-    }
-
     /// Writes one pair into each place of a rectangle. It takes two steps a place.
     pub fn clear<L: Ledger>(
         &mut self,
@@ -91,7 +49,7 @@ impl Target {
         ensures pairs { (f : ℕ → ℕ → Pixel) → HoldPairs self.old.back self.old.depth f → HoldPairs self.new.back self.new.depth (cleared rect.now colour depth f) }
         ensures width { self.new.back.width ≡ self.old.back.width }
         ensures height { self.new.back.height ≡ self.old.back.height }
-        ensures cost { steps.new ≡ steps.old + 2 * area rect.now }
+        ensures cost { steps.new ≡ steps.old + 2 * pixel_count rect.now }
     {
         self.back.fill(rect, colour, steps);
         self.depth.fill(rect, depth, steps);
@@ -99,7 +57,7 @@ impl Target {
 }
 
 impl Surface for Target {
-    ghost use Rattle.dri_card.specs.Alike.{pairs_same};
+    ghost use Rattle.dri_plane.specs.Alike.{pairs_same};
 
     ghost width = { λ target. target.back.width };
 
@@ -111,6 +69,7 @@ impl Surface for Target {
 
     ghost alike = { λ target f g same. pairs_same target.back target.depth f g same };
 
+    #[inline(always)]
     fn draw_run<P: Painter, L: Ledger>(
         &mut self,
         y: u16,
@@ -119,10 +78,14 @@ impl Surface for Target {
         painter: &mut P,
         steps: &mut Steps<L>,
     ) {
-        self.paint(left, y, painter, steps);
-        for x in left + 1..right {
-            painter.step(x - 1);
-            self.paint(x, y, painter, steps);
-        }
+        paint_row(
+            &mut self.back,
+            &mut self.depth,
+            y,
+            left,
+            right,
+            painter,
+            steps,
+        );
     }
 }

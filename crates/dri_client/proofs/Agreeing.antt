@@ -9,7 +9,6 @@ use Rattle.dri_core.specs.Phases.{In, Old, Out, Phase, left_from}
 use Rattle.dri_core.specs.Privates.{Private}
 use Rattle.dri_core.specs.Worlds.{World, clips_in, put}
 use Rattle.dri_core.proofs.Parts.{put_here}
-use Rattle.dri_model.specs.Groups.{Groups}
 use Rattle.dri_model.specs.Heaps.{Heap}
 use Rattle.dri_model.specs.Stacks.{origin}
 use Rattle.dri_client.specs.Parts.{Agrees, PartState, part_after, private_of}
@@ -18,16 +17,6 @@ use Rattle.dri_client.specs.Steps.{caught_up, is_last_of}
 -- a part agrees with the private part that was put for it
 pub agrees_put : (p : PartState) (f : ℕ → Private) (c : ℕ) (q : Private) → Agrees p q → Agrees p (put f c q c)
 agrees_put p f c q is = subst (Agrees p) (sym (put_here f c q)) is
-
--- where a phase changes alone
-pub phase_agrees : (p l : PartState) (x : Phase) (f : ℕ → Private) (c : ℕ) → l ≡ record p { phase = x } → Agrees p (f c) → Agrees l (put f c (record (f c) { phase = x }) c)
-phase_agrees p l x f c is agrees =
-    agrees_put l f c (record (f c) { phase = x }) (subst (λ (m : PartState). Agrees m (record (f c) { phase = x })) (sym is) (ap (λ (q : Private). record q { phase = x }) agrees))
-
--- where the dirty groups change alone
-pub dirty_agrees : (p l : PartState) (g : Groups) (f : ℕ → Private) (c : ℕ) → l ≡ record p { dirty = g } → Agrees p (f c) → Agrees l (put f c (record (f c) { dirty = g }) c)
-dirty_agrees p l g f c is agrees =
-    agrees_put l f c (record (f c) { dirty = g }) (subst (λ (m : PartState). Agrees m (record (f c) { dirty = g })) (sym is) (ap (λ (q : Private). record q { dirty = g }) agrees))
 
 module _ (s : Scene) (w : World) (c : ℕ) where
   -- it left the lock

@@ -1,13 +1,13 @@
 -- Textures that are lost.
-use Rattle.std.proofs.Common.{◌≡◌, ◌<◌, ◌≤◌, ◌+◌, ℕ, zero, suc, List, Bool, true, false, Option, Some, None, arith, refl, sym, ap, ◌∙◌}
+use Rattle.std.proofs.Common.{◌≡◌, ◌<◌, ◌≤◌, ◌+◌, ℕ, suc, List, Bool, true, false, Option, Some, None, arith, refl, sym, ap, ◌∙◌}
 use Rattle.std.specs.Prelude.{◌==◌, ◌||◌, if◌then◌else◌, nat_lt, not}
 use Rattle.std.proofs.lemmas.Bool.{and_parts, true≢false}
 use Rattle.std.proofs.lemmas.Bool.Decides.{nat_tests}
 use Rattle.dri_core.specs.Privates.{loses, placed_after, run_of}
 use Rattle.dri_core.proofs.Textures.{in_bounds}
 use Rattle.dri_core.proofs.TextureUses.{freed_age, freed_low, room_at}
-use Rattle.dri_model.specs.Counting.{any_from}
 use Rattle.dri_model.specs.Heaps.{Heap, Run, age_freed, allocated, classes_for, fits, freed_for, in_run, is_newer, is_place_for, is_room, lose, lowest_place}
+use Rattle.dri_model.proofs.Counts.{any_same}
 use Rattle.dri_texheap.specs.Placements.{is_bound_lost, is_lost, placed_of}
 
 lost_same : (f : ℕ → Bool) (o : Option Run) → is_lost f o ≡ loses f o
@@ -18,11 +18,6 @@ lost_same f (Some run) = refl
 pub bound_lost_same : (f : ℕ → Bool) (runs : List (Option Run)) (bound : Option ℕ) → is_bound_lost f runs bound ≡ loses f (run_of (placed_of runs) bound)
 bound_lost_same f runs None = refl
 bound_lost_same f runs (Some t) = lost_same f (placed_of runs t)
-
--- the property holds of some of these numbers exactly where the other does
-any_same : (p q : ℕ → Bool) (first n : ℕ) → ((k : ℕ) → first ≤ k → k < first + n → p k ≡ q k) → any_from p first n ≡ any_from q first n
-any_same p q first zero same = refl
-any_same p q first (suc n) same = λ i. same (first + n) (omega arith) (omega arith) i || any_same p q first n (λ k l m. same k l (omega (arith, m))) i
 
 within_run : (r : Run) (k : ℕ) → r.first ≤ k → k < r.first + r.count → in_run r k ≡ true
 within_run r k low high = grind (arith, nat_tests)

@@ -4,7 +4,7 @@ use Rattle.std.specs.Prelude.{◌⊎◌, ◌≢◌, ◌==◌, Contains, IfSome, 
 use Rattle.std.proofs.lemmas.Bool.Decides.{eqb_tells, nat_tests}
 use Rattle.std.proofs.lemmas.List.{drop_more}
 use Rattle.std.proofs.lemmas.List.Sums.{sum_by-cons}
-use Rattle.std.proofs.lemmas.Option.{get_or_from_slice_get, slice_get-get_or, slice_get-map, slice_get_past, slice_get_within}
+use Rattle.std.proofs.lemmas.Option.{get_or_from_slice_get, slice_get-get_or, slice_get-map, slice_get_past, slice_get_within, same_Some}
 use Rattle.std.specs.Option.{option_copied, option_map}
 use Rattle.dri_base.specs.declared.command.Command.{Command}
 use Rattle.dri_base.specs.declared.scene.ClientScript.{ClientScript}
@@ -12,8 +12,6 @@ use Rattle.dri_base.specs.declared.scene.Scene.{Scene}
 use Rattle.dri_base.specs.declared.state.Setting.{Setting}
 use Rattle.dri_base.specs.declared.state.Setting.TheVariants as Setting_is
 use Rattle.dri_base.specs.declared.state.State.{State}
-use Rattle.dri_base.specs.declared.state.TexMode.{TexMode}
-use Rattle.dri_base.specs.declared.state.TexMode.TheVariants as TexMode_is
 use Rattle.dri_base.specs.declared.texture.TexShape.{TexShape}
 use Rattle.dri_base.specs.declared.texture.Texture.{Texture}
 use Rattle.dri_base.specs.Ranges.{ClientInRange, CommandInRange, InRange, IsWithin, SettingInRange, client_numbers, command_count, heap_bytes, texture_numbers}
@@ -21,18 +19,16 @@ use Rattle.dri_base.specs.States.{with_setting}
 use Rattle.dri_base.specs.Scenes.{script_in, script_of}
 use Rattle.dri_base.specs.Texels.{texture_in}
 use Rattle.dri_base.proofs.RangeLemmas.{textures_in_range}
-use Rattle.dri_core.specs.Privates.{textured_with, texture_used}
+use Rattle.dri_core.specs.Privates.{textured_with}
+use Rattle.dri_core.proofs.Parts.{used_bound}
 use Rattle.dri_model.specs.Heaps.{Run}
 use Rattle.dri_client.specs.Kept.{IsKept, IsScript}
 use Rattle.dri_client.specs.Parts.{PartState, next_command}
 use Rattle.dri_client.specs.Textures.{missing_in, shape_in, shape_of}
 
-pub some_same : {A : Type 0} (a b : A) → Some a ≡ Some b → a ≡ b
-some_same a b e = cc
-
 few_at : (ps : List ClientScript) (i : ℕ) (p : ClientScript) → slice_get ps i ≡ Some p → length p.commands ≤ command_count ps
 few_at [] i p e = absurd (cc)
-few_at (q ∷ ps) zero p e = rw sum_by-cons (omega (arith, ap (λ (r : ClientScript). length r.commands) (some_same q p e)))
+few_at (q ∷ ps) zero p e = rw sum_by-cons (omega (arith, ap (λ (r : ClientScript). length r.commands) (same_Some q p e)))
 few_at (q ∷ ps) (suc i) p e = rw sum_by-cons (omega (arith, few_at ps i p e))
 
 -- a client's script, which stands in a scene in range
@@ -58,12 +54,13 @@ script_on ps i n x l is other same = sym (past x (drop (i + 1) ps) other) ∙ (a
     past : (q : ClientScript) (qs : List ClientScript) → (q.number ≡ n → ⊥) → script_in (q ∷ qs) n ≡ script_in qs n
     past q qs ne = let f : (q.number == n) ≡ false = grind (arith, nat_tests) in rw f refl
 
+-- a script's number stands at its place among the numbers
+pub number_stands : (ps : List ClientScript) (i n : ℕ) (x : ClientScript) → i < length ps → x ≡ get_or ps i x → x.number ≡ n → slice_get (client_numbers ps) i ≡ Some n
+number_stands ps i n x l is here = slice_get-map (λ (q : ClientScript). q.number) ps i ∙ (ap (option_map (λ (q : ClientScript). q.number)) (slice_get-get_or ps i x l ∙ ap Some (sym is)) ∙ ap Some here)
+
 -- the number of the script that was read
 pub number_read : (ps : List ClientScript) (i n : ℕ) (x : ClientScript) → i < length ps → x ≡ get_or ps i x → get_or (client_numbers ps) i n ≡ n → x.number ≡ n
-number_read ps i n x l is e = sym (get_or_from_slice_get (client_numbers ps) i x.number n there) ∙ e
-  where
-    there : slice_get (client_numbers ps) i ≡ Some x.number
-    there = slice_get-map (λ (q : ClientScript). q.number) ps i ∙ ap (option_map (λ (q : ClientScript). q.number)) (slice_get-get_or ps i x l ∙ ap Some (sym is))
+number_read ps i n x l is e = sym (get_or_from_slice_get (client_numbers ps) i x.number n (number_stands ps i x.number x l is refl)) ∙ e
 
 -- what a look into the commands finds, as it is copied
 pub looked_up : (xs : List Command) (i : ℕ) (r : Option (Bor Command)) → is_some r ≡ ltb i (length xs) → IfSome r (λ x. x.now ≡ get_or xs i x.now) → option_copied r ≡ slice_get xs i
@@ -82,7 +79,7 @@ shape_sides script t shape ranged found = by_texture (texture_in script.textures
   where
     by_texture : (o : Option Texture) → texture_in script.textures t ≡ o → shape_of o ≡ Some shape → IsWithin 1 256 shape.width × IsWithin 1 256 shape.height
     by_texture None is e = absurd (cc)
-    by_texture (Some p) is e = let range = ranged.textured t p is in subst (λ (q : TexShape). IsWithin 1 256 q.width × IsWithin 1 256 q.height) (some_same p.shape shape e) (range.wide, range.high)
+    by_texture (Some p) is e = let range = ranged.textured t p is in subst (λ (q : TexShape). IsWithin 1 256 q.width × IsWithin 1 256 q.height) (same_Some p.shape shape e) (range.wide, range.high)
 
 -- a texture whose number is among them is there
 numbered_texture : (ps : List Texture) (t : ℕ) → Contains (texture_numbers ps) t → IsSome (texture_in ps t)
@@ -104,7 +101,7 @@ setting_bound ps (Setting_is.TexMode v) old range own t is = own t is
 setting_bound ps (Setting_is.Wrap v) old range own t is = own t is
 setting_bound ps (Setting_is.Scissor v) old range own t is = own t is
 setting_bound ps (Setting_is.Bind None) old range own t is = absurd (cc)
-setting_bound ps (Setting_is.Bind (Some u)) old range own t is = numbered_texture ps t (subst (Contains (texture_numbers ps)) (some_same u t is) range)
+setting_bound ps (Setting_is.Bind (Some u)) old range own t is = numbered_texture ps t (subst (Contains (texture_numbers ps)) (same_Some u t is) range)
 
 -- a texture that is found by its number has it
 texture_number : (ps : List Texture) (t : ℕ) (p : Texture) → texture_in ps t ≡ Some p → p.number ≡ t
@@ -112,14 +109,8 @@ texture_number [] t p found = absurd (cc)
 texture_number (q ∷ qs) t p found = by_number (eqb_tells q.number t) (texture_number qs t p) found
   where
     by_number : ((q.number == t) ≡ true) × (q.number ≡ t) ⊎ (((q.number == t) ≡ false) × (q.number ≢ t)) → (texture_in qs t ≡ Some p → p.number ≡ t) → texture_in (q ∷ qs) t ≡ Some p → p.number ≡ t
-    by_number (inl same) rest found = ap (λ (r : Texture). r.number) (sym (some_same q p (rw same.0 at found))) ∙ same.1
+    by_number (inl same) rest found = ap (λ (r : Texture). r.number) (sym (same_Some q p (rw same.0 at found))) ∙ same.1
     by_number (inr other) rest found = rest (rw other.0 at found)
-
--- a texture that is used is the bound one
-used_bound : (mode : TexMode) (bound : Option ℕ) (t : ℕ) → texture_used mode bound ≡ Some t → bound ≡ Some t
-used_bound TexMode_is.Off bound t is = absurd (cc)
-used_bound TexMode_is.Replace bound t is = is
-used_bound TexMode_is.Modulate bound t is = is
 
 -- the number of the texture that is used
 pub used_number : (script : ClientScript) (n t : ℕ) (p : PartState) → IsScript script → IsKept script n p → textured_with p.state ≡ Some t → IsWithin 1 64 t
@@ -135,5 +126,5 @@ missing_parts placed None t is = absurd (cc)
 missing_parts placed (Some u) t is = by_run (placed u) refl is
   where
     by_run : (r : Option Run) → placed u ≡ r → (if is_none r then Some u else None) ≡ Some t → (Some u ≡ Some t) × (placed t ≡ None)
-    by_run None none is = (is, ap placed (sym (some_same u t is)) ∙ none)
+    by_run None none is = (is, ap placed (sym (same_Some u t is)) ∙ none)
     by_run (Some run) some is = absurd (cc)

@@ -4,7 +4,7 @@ use Rattle.dri_base.specs.Ranges.{CommandsInRange, TextureInRange, texture_numbe
 use Rattle.dri_base.specs.Texels.{texture_in}
 use Rattle.dri_base.specs.declared.scene.ClientScript.{ClientScript}
 use Rattle.dri_base.specs.declared.texture.Texture.{Texture}
-use Rattle.dri_core.specs.Phases.{In, Old, Out, Ask, Asking, Over, Ended, Dead, Phase}
+use Rattle.dri_core.specs.Phases.{Over, Ended, Dead, Phase}
 use Rattle.dri_texheap.specs.Placements.{AreInside}
 use Rattle.dri_client.specs.Activities.{phase_in}
 use Rattle.dri_client.specs.Parts.{PartState}
@@ -36,14 +36,10 @@ pub record IsScript (script : ClientScript) : Type 0 where
 
 -- a command is left in this phase
 abbrev pub GoesOn : Phase → ℕ → ℕ → Type 0
-GoesOn Out place count = place ≤ count
-GoesOn Old place count = place ≤ count
-GoesOn In place count = place ≤ count
-GoesOn Ask place count = place ≤ count
-GoesOn Asking place count = place ≤ count
 GoesOn Over place count = Unit {0}
 GoesOn Ended place count = Unit {0}
 GoesOn Dead place count = Unit {0}
+GoesOn phase place count = place ≤ count
 
 -- the part is one of this script's client, where there are so many regions
 pub record IsKept (script : ClientScript) (regions : ℕ) (p : PartState) : Type 0 where

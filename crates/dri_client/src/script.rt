@@ -13,6 +13,7 @@ use dri_base::{ClientScript, TexShape, Texture};
 pub fn place_of(clients: &[ClientScript], number: u32) -> Option<usize>
     ensures there { IsSome result ↔ Contains (client_numbers clients.now) number }
     ensures script { IfSome result (λ i. slice_get clients.now i ≡ Some (script_in clients.now number)) }
+    ensures number { IfSome result (λ i. slice_get (client_numbers clients.now) i ≡ Some number) }
 {
     for (place, script) in clients.iter().enumerate() {
         if script.number == number {

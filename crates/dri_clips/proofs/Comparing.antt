@@ -9,9 +9,10 @@ use Rattle.dri_base.specs.declared.scene.Window.{Window}
 use Rattle.dri_base.specs.declared.shape.Rect.{Rect}
 use Rattle.dri_rect.specs.Pixels.{SamePixels, inside}
 use Rattle.dri_model.specs.Counting.{all_below}
-use Rattle.dri_model.specs.Stacks.{clips, is_window, same_bool, same_set, top}
+use Rattle.dri_model.specs.Stacks.{clips, is_touched, is_window, origin, same_bool, same_origin, same_set, top}
 use Rattle.dri_clips.specs.Boards.{shows}
 use Rattle.dri_clips.specs.Layouts.{IsAbsent}
+use Rattle.dri_clips.specs.Mends.{Stands}
 use Rattle.dri_clips.proofs.Walking.{never_top, top_pixel}
 
 -- lists by places
@@ -105,6 +106,22 @@ same_clips width height n old new was is r a b canonical tells = decided r (same
 
     no : same_set width height (clips width height old n) (clips width height new n) ≡ true → r ≡ true
     no e = tells.1 (canonical (λ x y. a x y ∙ shown_same width height n old new (sets_each width height (clips width height old n) (clips width height new n) e) x y ∙ sym (b x y)))
+
+-- a window that stands isn't touched; one whose list differs is
+pub stands_untouched : (width height n : ℕ) (old new : List Window) → Stands width height old new n → false ≡ is_touched width height old new n
+stands_untouched width height n old new is =
+    let sets : same_set width height (clips width height old n) (clips width height new n) ≡ true = sets_same width height (clips width height old n) (clips width height new n) (λ x y a b. sym (is.clips (pos x) (pos y))) in
+    let corners : same_origin (origin old n) (origin new n) ≡ true = subst (λ (o : ℤ × ℤ). same_origin (origin old n) o ≡ true) (sym is.corner) (own (origin old n)) in
+    rw (sets, corners) refl
+  where
+    own : (o : ℤ × ℤ) → same_origin o o ≡ true
+    own o = let a = (Decides-int_eq o.0 o.0).1 refl in let b = (Decides-int_eq o.1 o.1).1 refl in rw (a, b) refl
+
+pub differs_touched : (width height n : ℕ) (old new : List Window) → false ≡ same_set width height (clips width height old n) (clips width height new n) → true ≡ is_touched width height old new n
+differs_touched width height n old new e = rw (← e) refl
+
+pub moved_touched : (width height n : ℕ) (old new : List Window) (r : Bool) → true ≡ same_set width height (clips width height old n) (clips width height new n) → r ≡ not (same_origin (origin old n) (origin new n)) → r ≡ is_touched width height old new n
+moved_touched width height n old new r e f = rw (← e) f
 
 -- rectangles
 int_same : (x y : ℤ) → int_eq x y ≡ true → x ≡ y

@@ -1,5 +1,7 @@
+pub mod Areas
 pub mod Comparing
 pub mod Gaining
+pub mod Lists
 pub mod Painting
 pub mod Placing
 pub mod Restacking

@@ -10,11 +10,11 @@ use Rattle.std.proofs.lemmas.List.Elements.{All-map}
 use Rattle.dri_base.specs.declared.colour.Rgb.{Rgb}
 use Rattle.dri_base.specs.declared.scene.Window.{Window}
 use Rattle.dri_base.specs.declared.shape.Rect.{Rect}
-use Rattle.dri_rect.specs.Pixels.{IsApart, IsProper, inside, has_pixel as rect_has}
-use Rattle.dri_model.specs.Stacks.{ground_colour, is_window, same_top, top, has_pixel as window_has}
+use Rattle.dri_rect.specs.Pixels.{IsApart, IsProper, inside, has_pixel}
+use Rattle.dri_model.specs.Stacks.{ground_colour, is_window, same_top, top, window_has}
 use Rattle.dri_clips.specs.declared.touched.Paint.{Paint}
 use Rattle.dri_clips.specs.Gains.{AreOnScreen, IsRectOnScreen, clip_rect, paint_of}
-use Rattle.dri_clips.specs.Layouts.{AreApart as WindowsApart, IsAbsent, screen_rect}
+use Rattle.dri_clips.specs.Layouts.{AreDistinct, IsAbsent, screen_rect}
 use Rattle.dri_base.specs.Planes.{in_rect}
 use Rattle.dri_clips.specs.Paints.{AreApart, IsOnScreen, paint_at}
 use Rattle.dri_clips.proofs.Placing.{eq_sym, take_one}
@@ -44,17 +44,17 @@ both_swapped true false = refl
 both_swapped false true = refl
 both_swapped false false = refl
 
-clip_has : (width height : ℕ) (r : Rect) → IsRectOnScreen width height r → (x y : ℕ) → in_rect (clip_rect r) x y ≡ rect_has r (pos x) (pos y)
+clip_has : (width height : ℕ) (r : Rect) → IsRectOnScreen width height r → (x y : ℕ) → in_rect (clip_rect r) x y ≡ has_pixel r (pos x) (pos y)
 clip_has width height r o x y =
     let right : pos 0 ≤ℤ r.x2 = omega (arith, ints, o.left, o.start) in
     let low : pos 0 ≤ℤ r.y2 = omega (arith, ints, o.top, o.head) in
     rw (le_abs r.x1 x o.left, lt_abs r.x2 x right, le_abs r.y1 y o.top, lt_abs r.y2 y low) (both_swapped (int_le r.x1 (pos x) && int_lt (pos x) r.x2) (int_le r.y1 (pos y) && int_lt (pos y) r.y2))
 
 -- rectangles of a region on the screen
-member : (rs : List Rect) (i : ℕ) (r : Rect) (x y : ℤ) → slice_get rs i ≡ Some r → rect_has r x y ≡ true → inside rs x y ≡ true
+member : (rs : List Rect) (i : ℕ) (r : Rect) (x y : ℤ) → slice_get rs i ≡ Some r → has_pixel r x y ≡ true → inside rs x y ≡ true
 member [] i r x y e h = absurd (true≢false (ap (λ o. is_some o) (sym e)))
 member (s ∷ rs) zero r x y e h = let same : s ≡ r = cc in rw same (rw h refl)
-member (s ∷ rs) (suc i) r x y e h = by (rect_has s x y) (member rs i r x y e h)
+member (s ∷ rs) (suc i) r x y e h = by (has_pixel s x y) (member rs i r x y e h)
   where
     by : (b : Bool) → inside rs x y ≡ true → (b || inside rs x y) ≡ true
     by true f = refl
@@ -65,10 +65,10 @@ proper_at [] i r e a = absurd (true≢false (ap (λ o. is_some o) (sym e)))
 proper_at (s ∷ rs) zero r e a = let same : s ≡ r = cc in subst IsProper same a.0
 proper_at (s ∷ rs) (suc i) r e a = proper_at rs i r e a.1
 
-first_corner : (r : Rect) → IsProper r → rect_has r r.x1 r.y1 ≡ true
+first_corner : (r : Rect) → IsProper r → has_pixel r r.x1 r.y1 ≡ true
 first_corner r p = grind (arith, ints, p.across.lt, p.down.lt)
 
-last_corner : (r : Rect) → IsProper r → rect_has r (r.x2 -ℤ pos 1) (r.y2 -ℤ pos 1) ≡ true
+last_corner : (r : Rect) → IsProper r → has_pixel r (r.x2 -ℤ pos 1) (r.y2 -ℤ pos 1) ≡ true
 last_corner r p = grind (arith, ints, p.across.lt, p.down.lt)
 
 pub record IsPlace (width height : ℕ) (x y : ℤ) : Type 0 where
@@ -77,7 +77,7 @@ pub record IsPlace (width height : ℕ) (x y : ℤ) : Type 0 where
   pub top : pos 0 ≤ℤ y
   pub bottom : y <ℤ pos height
 
-pub place : (width height : ℕ) (x y : ℤ) → rect_has (screen_rect width height) x y ≡ true → IsPlace width height x y
+pub place : (width height : ℕ) (x y : ℤ) → has_pixel (screen_rect width height) x y ≡ true → IsPlace width height x y
 place width height x y e = record { left = grind (arith, ints); right = grind (arith, ints); top = grind (arith, ints); bottom = grind (arith, ints) }
 
 pub rect_on_screen : (width height : ℕ) (rs : List Rect) (i : ℕ) (r : Rect) → slice_get rs i ≡ Some r → AllByRecursion IsProper rs → AreOnScreen width height rs → IsRectOnScreen width height r
@@ -117,7 +117,7 @@ rects_on width height rs a on k d b = rect_on_screen width height rs k (get_or r
 
 pub paint_region_at : (width height : ℕ) (colour : Rgb) (rs : List Rect) → ((k : ℕ) (d : Rect) → k < length rs → IsRectOnScreen width height (get_or rs k d)) → (x y : ℕ) → paint_at (map (paint_of colour) rs) x y ≡ (if inside rs (pos x) (pos y) then Some colour else None)
 paint_region_at width height colour [] on x y = refl
-paint_region_at width height colour (r ∷ rs) on x y = rw (clip_has width height r (on 0 r (omega arith)) x y) (by (rect_has r (pos x) (pos y)) (paint_region_at width height colour rs (λ k d b. on (suc k) d (omega arith)) x y))
+paint_region_at width height colour (r ∷ rs) on x y = rw (clip_has width height r (on 0 r (omega arith)) x y) (by (has_pixel r (pos x) (pos y)) (paint_region_at width height colour rs (λ k d b. on (suc k) d (omega arith)) x y))
   where
     by : (t : Bool) → paint_at (map (paint_of colour) rs) x y ≡ (if inside rs (pos x) (pos y) then Some colour else None) → (if t then Some colour else paint_at (map (paint_of colour) rs) x y) ≡ (if t || inside rs (pos x) (pos y) then Some colour else None)
     by true e = refl
@@ -153,7 +153,7 @@ painted_at (p ∷ ps) (suc i) d x y b h = by (in_rect p.rect x y) (painted_at ps
     by false e = e
 
 -- the window at a place is on top just where it covers a pixel that no window above it covers
-pub top_at_place : (ws : List Window) (k : ℕ) (w : Window) → WindowsApart ws → slice_get ws k ≡ Some w → (x y : ℕ) → is_window w.number (top ws x y) ≡ (is_none (top (take k ws) x y) && (w.mapped && window_has w x y))
+pub top_at_place : (ws : List Window) (k : ℕ) (w : Window) → AreDistinct ws → slice_get ws k ≡ Some w → (x y : ℕ) → is_window w.number (top ws x y) ≡ (is_none (top (take k ws) x y) && (w.mapped && window_has w x y))
 top_at_place [] k w a e x y = absurd (true≢false (ap (λ o. is_some o) (sym e)))
 top_at_place (v ∷ ws) zero w a e x y = let same : v ≡ w = cc in subst (λ (u : Window). is_window u.number (top (v ∷ ws) x y) ≡ (u.mapped && window_has u x y)) same (by (v.mapped && window_has v x y) (ap (is_window v.number) (sym (top_pixel ws x y)) ∙ never_top v.number ws a.0 (pos x) (pos y)))
   where

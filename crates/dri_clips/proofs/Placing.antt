@@ -13,7 +13,7 @@ use Rattle.indexmap.specs.Layout.{set_value_at}
 use Rattle.dri_base.specs.declared.scene.Window.{Window}
 use Rattle.dri_base.specs.Ranges.{WindowInRange, window_numbers}
 use Rattle.dri_model.specs.Stacks.{origin, window_in}
-use Rattle.dri_clips.specs.Layouts.{AreApart, IsAbsent, IsPlaced}
+use Rattle.dri_clips.specs.Layouts.{AreDistinct, IsAbsent, IsPlaced}
 
 pub eq_sym : (a b : ℕ) → (a == b) ≡ (b == a)
 eq_sym a b = elim (cases_eq a b) [
@@ -104,12 +104,12 @@ absent_from : (n : ℕ) (ws : List Window) → AllByRecursion (λ y. nat_eq n y 
 absent_from n [] a = tt
 absent_from n (w ∷ ws) a = (eq_sym w.number n ∙ a.0, absent_from n ws a.1)
 
-apart_numbers : (ws : List Window) → IsDistinct nat_eq (window_numbers ws) → AreApart ws
+apart_numbers : (ws : List Window) → IsDistinct nat_eq (window_numbers ws) → AreDistinct ws
 unfolding IsDistinct
 apart_numbers [] d = tt
 apart_numbers (w ∷ ws) d = (absent_from w.number ws d.0, apart_numbers ws d.1)
 
-pub apart_keys : (ks : List ℕ) (ws : List Window) → ks ≡ window_numbers ws → IsDistinct nat_eq ks → AreApart ws
+pub apart_keys : (ks : List ℕ) (ws : List Window) → ks ≡ window_numbers ws → IsDistinct nat_eq ks → AreDistinct ws
 apart_keys ks ws e d = apart_numbers ws (subst (IsDistinct nat_eq) e d)
 
 -- numbers by places
@@ -117,7 +117,7 @@ absent_pairs : (n : ℕ) (ws : List Window) → ((k d : ℕ) → k < length (win
 absent_pairs n [] f = tt
 absent_pairs n (w ∷ ws) f = (ne_eqb w.number n (λ e. f 0 0 (omega arith) (sym e)), absent_pairs n ws (λ k d b. f (suc k) d (omega arith)))
 
-pub apart_pairs : (ws : List Window) → AllPairs ◌≢◌ (window_numbers ws) → AreApart ws
+pub apart_pairs : (ws : List Window) → AllPairs ◌≢◌ (window_numbers ws) → AreDistinct ws
 apart_pairs [] p = tt
 apart_pairs (w ∷ ws) p = (absent_pairs w.number ws (λ k d b. p 0 (suc k) d (omega arith) (omega arith)), apart_pairs ws (λ i j d up b. p (suc i) (suc j) d (omega arith) (omega arith)))
 
@@ -174,7 +174,7 @@ moved_values es ms from to e = ap values_of e ∙ map_moved (λ p. p.1) es from 
 abbrev pub entry_of : Window → ℕ × Window
 entry_of w = (w.number, w)
 
-absent_before : (ws : List Window) (i : ℕ) (d : Window) → i < length ws → AreApart ws → IsAbsent (get_or ws i d).number (take i ws)
+absent_before : (ws : List Window) (i : ℕ) (d : Window) → i < length ws → AreDistinct ws → IsAbsent (get_or ws i d).number (take i ws)
 absent_before [] i d below a = absurd (omega arith)
 absent_before (w ∷ ws) zero d below a = tt
 absent_before (w ∷ ws) (suc i) d below a = (eq_sym w.number (get_or ws i d).number ∙ differs ws i a.0 (omega arith), absent_before ws i d (omega arith) a.1)
@@ -201,7 +201,7 @@ take_one {X} xs i j x e at = subst (λ (k : ℕ). take k xs ≡ take i xs ++ x �
     by (y ∷ ys) zero f = let same : y ≡ x = cc in ap (λ z. z ∷ []) same
     by (y ∷ ys) (suc k) f = ap (λ zs. y ∷ zs) (by ys k f)
 
-pub inserted : (ws : List Window) (i j : ℕ) (w d : Window) (es ns : List (ℕ × Window)) → j ≡ i + 1 → i < length ws → AreApart ws → w ≡ get_or ws i d → es ≡ map entry_of (take i ws) → ns ≡ insert_entry nat_eq es w.number w → ns ≡ map entry_of (take j ws)
+pub inserted : (ws : List Window) (i j : ℕ) (w d : Window) (es ns : List (ℕ × Window)) → j ≡ i + 1 → i < length ws → AreDistinct ws → w ≡ get_or ws i d → es ≡ map entry_of (take i ws) → ns ≡ insert_entry nat_eq es w.number w → ns ≡ map entry_of (take j ws)
 inserted ws i j w d es ns e below a at es_are ns_are =
     let fresh : IsAbsent w.number (take i ws) = subst (λ (v : Window). IsAbsent v.number (take i ws)) (sym at) (absent_before ws i d below a) in
     let next : take i ws ++ w ∷ [] ≡ take j ws = ap (λ (v : Window). take i ws ++ v ∷ []) at ∙ sym (take_next ws i d below) ∙ ap (λ (k : ℕ). take k ws) (let s : suc i ≡ j = omega arith in s) in
@@ -221,7 +221,7 @@ entries_values ws es e = ap values_of e ∙ values_entries ws
 pub entries_keys : (ws : List Window) (es : List (ℕ × Window)) → es ≡ map entry_of ws → keys_of es ≡ window_numbers (values_of es)
 entries_keys ws es e = ap keys_of e ∙ keys_entries ws ∙ ap window_numbers (sym (entries_values ws es e))
 
-pub placed_here : (ws : List Window) (i : ℕ) (w : Window) → AreApart ws → slice_get ws i ≡ Some w → IsPlaced w.number i ws
+pub placed_here : (ws : List Window) (i : ℕ) (w : Window) → AreDistinct ws → slice_get ws i ≡ Some w → IsPlaced w.number i ws
 placed_here [] i w a e = absurd (true≢false (ap (λ o. is_some o) (sym e)))
 placed_here (v ∷ ws) zero w a e = let same : v ≡ w = cc in eq-eqb v.number w.number (ap (λ (u : Window). u.number) same)
 placed_here (v ∷ ws) (suc i) w a e = (eq_sym v.number w.number ∙ differs ws i a.0 e, placed_here ws i w a.1 e)
@@ -247,7 +247,7 @@ absent_get n [] j d a b = absurd (omega arith)
 absent_get n (w ∷ ws) zero d a b = λ e. eqb-false w.number n a.0 (sym e)
 absent_get n (w ∷ ws) (suc j) d a b = absent_get n ws j d a.1 (omega arith)
 
-pub pairs_apart : (ws : List Window) → AreApart ws → (i j d : ℕ) → i < j → j < length (window_numbers ws) → get_or (window_numbers ws) i d ≢ get_or (window_numbers ws) j d
+pub pairs_apart : (ws : List Window) → AreDistinct ws → (i j d : ℕ) → i < j → j < length (window_numbers ws) → get_or (window_numbers ws) i d ≢ get_or (window_numbers ws) j d
 pairs_apart [] a i j d up b = absurd (omega arith)
 pairs_apart (w ∷ ws) a zero zero d up b = absurd (omega arith)
 pairs_apart (w ∷ ws) a zero (suc j) d up b = absent_get w.number ws j d a.0 (omega arith)

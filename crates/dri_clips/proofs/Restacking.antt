@@ -1,20 +1,24 @@
 -- The stack after a change, by places.
-use Rattle.std.proofs.Common.{◌≡◌, ℕ, zero, suc, ◌<◌, ◌+◌, ◌-◌, length, set, take, drop, map, filter, List, [], ◌∷◌, ◌++◌, Bool, true, false, cond, arith, refl, sym, ◌∙◌, ap, subst, Option, None, Some, slice_get, is_some}
-use Rattle.std.specs.Prelude.{◌==◌, ◌&&◌, ℤ, not, All, if◌then◌else◌, IfSome}
+use Rattle.std.proofs.Common.{◌≡◌, ℕ, zero, suc, ◌<◌, ◌≤◌, ◌+◌, ◌*◌, ◌-◌, length, set, take, drop, map, filter, List, [], ◌∷◌, ◌++◌, Bool, true, false, cond, arith, refl, sym, ◌∙◌, ap, subst, Option, None, Some, slice_get, is_some}
+use Rattle.std.specs.Prelude.{◌==◌, ◌&&◌, ◌||◌, ℤ, not, All, if◌then◌else◌, IfSome}
 use Rattle.std.specs.List.{insert, remove}
 use Rattle.std.proofs.lemmas.Bool.{true≢false, and_parts, eqb-true}
 use Rattle.std.proofs.lemmas.List.{take_all, drop_all, length-append, length-take, length-drop}
-use Rattle.std.proofs.lemmas.List.Elements.{All-map, All-append, All-filter, All-weaker}
+use Rattle.std.proofs.lemmas.List.Elements.{All-map, All-append, All-filter, All-weaker, filter-append}
 use Rattle.indexmap.specs.IndexMap.{move_index}
 use Rattle.dri_base.specs.declared.scene.Window.{Window}
 use Rattle.dri_base.specs.Ranges.{IsPlace, IsSide, WindowInRange, is_corner, is_side}
 use Rattle.dri_base.proofs.RegionSizes.{corner_is, side_is}
 use Rattle.dri_base.specs.declared.command.Change.{Change}
 use Rattle.dri_base.specs.declared.command.Change.TheVariants.{Map, Unmap, Move, Resize, Raise, Lower}
-use Rattle.dri_model.specs.Stacks.{Refusal, altered, changed, named_by, refusal, refused_at, refused_for, stack_after, unless_refused, window_in, without_owner, unmapped}
-use Rattle.dri_clips.specs.Layouts.{AreApart, IsAbsent, IsPlaced, SameNumbers}
+use Rattle.dri_base.specs.Scenes.{named_by}
+use Rattle.dri_model.specs.Stacks.{Refusal, altered, changed, refusal, refused_at, refused_for, stack_after, unless_refused, window_in, without_owner, unmapped}
+use Rattle.dri_clips.specs.Areas.{is_reached, meets_window, named_in, others, reached}
+use Rattle.dri_clips.specs.Boards.{is_mapped}
+use Rattle.dri_clips.specs.Mends.{mending_cost}
+use Rattle.dri_clips.specs.Layouts.{AreDistinct, IsAbsent, IsPlaced, SameNumbers, window_rect}
 use Rattle.dri_clips.specs.Refusals.{altered_by, destination}
-use Rattle.dri_clips.proofs.Placing.{placed_below, window_at, window_absent}
+use Rattle.dri_clips.proofs.Placing.{placed_below, placed_here, window_at, window_absent}
 
 -- where no window has the number nothing is altered, kept or left out
 altered_none : (n : ℕ) (f : Window → Window) (ws : List Window) → IsAbsent n ws → altered n f ws ≡ ws
@@ -33,17 +37,17 @@ gone : (n : ℕ) (w : Window) (ws : List Window) → (w.number == n) ≡ true �
 gone n w ws p a = subst (λ (k : ℕ). IsAbsent k ws) (eqb-true w.number n p) a
 
 -- one window is altered, kept or left out
-altered_one : (n i : ℕ) (f : Window → Window) (ws : List Window) (w : Window) → IsPlaced n i ws → AreApart ws → slice_get ws i ≡ Some w → altered n f ws ≡ set ws i (f w)
+altered_one : (n i : ℕ) (f : Window → Window) (ws : List Window) (w : Window) → IsPlaced n i ws → AreDistinct ws → slice_get ws i ≡ Some w → altered n f ws ≡ set ws i (f w)
 altered_one n i f [] w p a e = absurd p
 altered_one n zero f (v ∷ ws) w p a e = let same : v ≡ w = cc in rw p (ap (λ vs. f v ∷ vs) (altered_none n f ws (gone n v ws p a.0)) ∙ ap (λ (u : Window). f u ∷ ws) same)
 altered_one n (suc i) f (v ∷ ws) w p a e = rw p.0 (ap (λ vs. v ∷ vs) (altered_one n i f ws w p.1 a.1 e))
 
-kept_one : (n i : ℕ) (ws : List Window) (w : Window) → IsPlaced n i ws → AreApart ws → slice_get ws i ≡ Some w → filter (λ v. v.number == n) ws ≡ w ∷ []
+kept_one : (n i : ℕ) (ws : List Window) (w : Window) → IsPlaced n i ws → AreDistinct ws → slice_get ws i ≡ Some w → filter (λ v. v.number == n) ws ≡ w ∷ []
 kept_one n i [] w p a e = absurd p
 kept_one n zero (v ∷ ws) w p a e = let same : v ≡ w = cc in rw p (ap (λ vs. v ∷ vs) (kept_none n ws (gone n v ws p a.0)) ∙ ap (λ (u : Window). u ∷ []) same)
 kept_one n (suc i) (v ∷ ws) w p a e = rw p.0 (kept_one n i ws w p.1 a.1 e)
 
-rest_one : (n i : ℕ) (ws : List Window) → IsPlaced n i ws → AreApart ws → filter (λ v. not (v.number == n)) ws ≡ remove ws i
+rest_one : (n i : ℕ) (ws : List Window) → IsPlaced n i ws → AreDistinct ws → filter (λ v. not (v.number == n)) ws ≡ remove ws i
 rest_one n i [] p a = absurd p
 rest_one n zero (v ∷ ws) p a = rw p (rest_all n ws (gone n v ws p a.0))
 rest_one n (suc i) (v ∷ ws) p a = rw p.0 (ap (λ vs. v ∷ vs) (rest_one n i ws p.1 a.1))
@@ -77,12 +81,12 @@ set_same [] i x e = refl
 set_same (y ∷ xs) zero x e = let same : y ≡ x = cc in ap (λ z. z ∷ xs) (sym same)
 set_same (y ∷ xs) (suc i) x e = ap (λ ys. y ∷ ys) (set_same xs i x e)
 
-in_place : (n i : ℕ) (f : Window → Window) (ws : List Window) (w : Window) → IsPlaced n i ws → AreApart ws → slice_get ws i ≡ Some w → move_index (set ws i (f w)) i i ≡ altered n f ws
+in_place : (n i : ℕ) (f : Window → Window) (ws : List Window) (w : Window) → IsPlaced n i ws → AreDistinct ws → slice_get ws i ≡ Some w → move_index (set ws i (f w)) i i ≡ altered n f ws
 in_place n i f ws w p a e =
     let got = got_set ws i (f w) w e in
     move_by (set ws i (f w)) i i (f w) got ∙ put_back (set ws i (f w)) i (f w) got ∙ sym (altered_one n i f ws w p a e)
 
-pub changed_at : (change : Change) (i : ℕ) (ws : List Window) (w : Window) → IsPlaced (named_by change) i ws → AreApart ws → slice_get ws i ≡ Some w →
+pub changed_at : (change : Change) (i : ℕ) (ws : List Window) (w : Window) → IsPlaced (named_by change) i ws → AreDistinct ws → slice_get ws i ≡ Some w →
     move_index (set ws i (altered_by change w)) i (destination change i (length ws - 1)) ≡ changed change ws
 changed_at (Map n) i ws w p a e = in_place n i (λ v. record v { mapped = true }) ws w p a e
 changed_at (Unmap n) i ws w p a e = in_place n i (λ v. record v { mapped = false }) ws w p a e
@@ -260,3 +264,124 @@ after_ranged change ws all = by (refusal change ws) refl
     by : (o : Option Refusal) → refusal change ws ≡ o → All WindowInRange (unless_refused o ws (changed change ws))
     by None e = seen (window_in ws (named_by change)) e
     by (Some why) e = all
+
+-- the windows that aren't named are as before
+others_map : (named : Window → Bool) (g : Window → Window) → ((w : Window) → named (g w) ≡ named w) → ((w : Window) → named w ≡ false → g w ≡ w) → (ws : List Window) → others named ws ≡ others named (map g ws)
+others_map named g same kept [] = refl
+others_map named g same kept (w ∷ ws) = by (named w) refl (others_map named g same kept ws)
+  where
+    by : (b : Bool) → named w ≡ b → others named ws ≡ others named (map g ws) → others named (w ∷ ws) ≡ others named (g w ∷ map g ws)
+    by true e more = ap (λ b. cond (not b) (w ∷ others named ws) (others named ws)) e ∙ more ∙ sym (ap (λ b. cond (not b) (g w ∷ others named (map g ws)) (others named (map g ws))) (same w ∙ e))
+    by false e more = ap (λ b. cond (not b) (w ∷ others named ws) (others named ws)) e ∙ (λ i. sym (kept w e) i ∷ more i) ∙ sym (ap (λ b. cond (not b) (g w ∷ others named (map g ws)) (others named (map g ws))) (same w ∙ e))
+
+others_altered : (n : ℕ) (f : Window → Window) → ((w : Window) → (f w).number ≡ w.number) → (ws : List Window) → others (λ w. w.number == n) ws ≡ others (λ w. w.number == n) (altered n f ws)
+others_altered n f same ws = others_map (λ w. w.number == n) (λ w. if w.number == n then f w else w) (λ w. ap (λ (k : ℕ). k == n) (altered_number n f same w)) (λ w e. ap (λ b. if b then f w else w) e) ws
+
+filter_twice : (p : Window → Bool) (ws : List Window) → filter p (filter p ws) ≡ filter p ws
+filter_twice p [] = refl
+filter_twice p (w ∷ ws) = by (p w) refl (filter_twice p ws)
+  where
+    by : (b : Bool) → p w ≡ b → filter p (filter p ws) ≡ filter p ws → filter p (cond b (w ∷ filter p ws) (filter p ws)) ≡ cond b (w ∷ filter p ws) (filter p ws)
+    by true e more = ap (λ b. cond b (w ∷ filter p (filter p ws)) (filter p (filter p ws))) e ∙ ap (λ (us : List Window). w ∷ us) more
+    by false e more = more
+
+filter_not : (p : Window → Bool) (ws : List Window) → filter (λ w. not (p w)) (filter p ws) ≡ []
+filter_not p [] = refl
+filter_not p (w ∷ ws) = by (p w) refl (filter_not p ws)
+  where
+    by : (b : Bool) → p w ≡ b → filter (λ v. not (p v)) (filter p ws) ≡ [] → filter (λ v. not (p v)) (cond b (w ∷ filter p ws) (filter p ws)) ≡ []
+    by true e more = ap (λ b. cond (not b) (w ∷ filter (λ v. not (p v)) (filter p ws)) (filter (λ v. not (p v)) (filter p ws))) e ∙ more
+    by false e more = more
+
+others_raised : (p : Window → Bool) (ws : List Window) → others p ws ≡ others p (filter p ws ++ others p ws)
+others_raised p ws = sym (filter-append (λ w. not (p w)) (filter p ws) (others p ws) ∙ (λ i. filter_not p ws i ++ filter_twice (λ w. not (p w)) ws i))
+
+others_lowered : (p : Window → Bool) (ws : List Window) → others p ws ≡ others p (others p ws ++ filter p ws)
+others_lowered p ws = sym (filter-append (λ w. not (p w)) (others p ws) (filter p ws) ∙ (λ i. filter_twice (λ w. not (p w)) ws i ++ filter_not p ws i) ∙ none (others p ws))
+  where
+    none : (us : List Window) → us ++ [] ≡ us
+    none [] = refl
+    none (u ∷ us) = ap (λ vs. u ∷ vs) (none us)
+
+others_changed : (change : Change) (ws : List Window) → others (λ w. w.number == named_by change) ws ≡ others (λ w. w.number == named_by change) (changed change ws)
+others_changed (Map n) ws = others_altered n (λ w. record w { mapped = true }) (λ w. refl) ws
+others_changed (Unmap n) ws = others_altered n (λ w. record w { mapped = false }) (λ w. refl) ws
+others_changed (Move n x y) ws = others_altered n (λ w. record w { x = x; y = y }) (λ w. refl) ws
+others_changed (Resize n width height) ws = others_altered n (λ w. record w { width = width; height = height }) (λ w. refl) ws
+others_changed (Raise n) ws = others_raised (λ w. w.number == n) ws
+others_changed (Lower n) ws = others_lowered (λ w. w.number == n) ws
+
+pub others_after : (change : Change) (ws : List Window) → others (λ w. w.number == named_by change) ws ≡ others (λ w. w.number == named_by change) (stack_after change ws)
+others_after change ws = by (refusal change ws)
+  where
+    by : (o : Option Refusal) → others (λ w. w.number == named_by change) ws ≡ others (λ w. w.number == named_by change) (unless_refused o ws (changed change ws))
+    by None = others_changed change ws
+    by (Some why) = refl
+
+pub unmapped_owner : (c : ℕ) (w : Window) → (unmapped c w).owner ≡ w.owner
+unmapped_owner c w = by (w.owner == c) refl
+  where
+    by : (b : Bool) → (w.owner == c) ≡ b → (if w.owner == c then record w { mapped = false } else w).owner ≡ w.owner
+    by true e = rw e refl
+    by false e = rw e refl
+
+pub others_without : (c : ℕ) (ws : List Window) → others (λ w. w.owner == c) ws ≡ others (λ w. w.owner == c) (without_owner c ws)
+others_without c ws = others_map (λ w. w.owner == c) (unmapped c) (λ w. ap (λ (k : ℕ). k == c) (unmapped_owner c w)) (λ w e. ap (λ b. if b then record w { mapped = false } else w) e) ws
+
+-- how many windows are named and mapped: at most one by a change, and by a death none afterwards
+none_named : (n : ℕ) (ws : List Window) → IsAbsent n ws → length (named_in (λ w. w.number == n) ws) ≡ 0
+none_named n [] a = refl
+none_named n (w ∷ ws) a = ap (λ b. length (cond (b && w.mapped) (w ∷ named_in (λ v. v.number == n) ws) (named_in (λ v. v.number == n) ws))) a.0 ∙ none_named n ws a.1
+
+pub one_named : (n : ℕ) (ws : List Window) → AreDistinct ws → length (named_in (λ w. w.number == n) ws) ≤ 1
+one_named n [] a = omega arith
+one_named n (w ∷ ws) a = by (w.number == n) refl w.mapped (one_named n ws a.1)
+  where
+    by : (b : Bool) → (w.number == n) ≡ b → (m : Bool) → length (named_in (λ v. v.number == n) ws) ≤ 1 → length (cond (b && m) (w ∷ named_in (λ v. v.number == n) ws) (named_in (λ v. v.number == n) ws)) ≤ 1
+    by true e true more = let z = none_named n ws (gone n w ws e a.0) in omega (arith, z)
+    by true e false more = more
+    by false e m more = more
+
+pub dead_unmapped : (c : ℕ) (ws : List Window) → length (named_in (λ w. w.owner == c) (without_owner c ws)) ≡ 0
+dead_unmapped c [] = refl
+dead_unmapped c (w ∷ ws) = by (w.owner == c) refl ∙ dead_unmapped c ws
+  where
+    both : ((unmapped c w).owner == c) ≡ (w.owner == c)
+    both = ap (λ (k : ℕ). k == c) (unmapped_owner c w)
+
+    by : (b : Bool) → (w.owner == c) ≡ b → length (cond (((unmapped c w).owner == c) && (unmapped c w).mapped) (unmapped c w ∷ named_in (λ v. v.owner == c) (without_owner c ws)) (named_in (λ v. v.owner == c) (without_owner c ws))) ≡ length (named_in (λ v. v.owner == c) (without_owner c ws))
+    by true e =
+        let m : (unmapped c w).mapped ≡ false = ap (λ b. (if b then record w { mapped = false } else w).mapped) e in
+        ap (λ b. length (cond b (unmapped c w ∷ named_in (λ v. v.owner == c) (without_owner c ws)) (named_in (λ v. v.owner == c) (without_owner c ws)))) ((λ i. (both ∙ e) i && m i))
+    by false e = ap (λ b. length (cond (b && (unmapped c w).mapped) (unmapped c w ∷ named_in (λ v. v.owner == c) (without_owner c ws)) (named_in (λ v. v.owner == c) (without_owner c ws)))) (both ∙ e)
+
+count_map : (p q : Window → Bool) (g : Window → Window) (ws : List Window) → ((k : ℕ) (w : Window) → slice_get ws k ≡ Some w → p w ≡ true → q (g w) ≡ true) → length (filter p ws) ≤ length (filter q (map g ws))
+count_map p q g [] f = omega arith
+count_map p q g (w ∷ ws) f = by (p w) (q (g w)) refl refl (count_map p q g ws (λ k v e h. f (suc k) v e h))
+  where
+    by : (a b : Bool) → p w ≡ a → q (g w) ≡ b → length (filter p ws) ≤ length (filter q (map g ws)) → length (cond a (w ∷ filter p ws) (filter p ws)) ≤ length (cond b (g w ∷ filter q (map g ws)) (filter q (map g ws)))
+    by true true d e less = omega (arith, less)
+    by true false d e less = absurd (true≢false (sym (f 0 w refl d) ∙ e))
+    by false true d e less = omega (arith, less)
+    by false false d e less = less
+
+pub dead_reached : (c : ℕ) (ws : List Window) → AreDistinct ws → length (named_in (λ w. w.owner == c) ws) ≤ reached (λ w. w.owner == c) ws (without_owner c ws)
+dead_reached c ws apart = count_map (λ w. (w.owner == c) && w.mapped) (is_reached (λ w. w.owner == c) ws (without_owner c ws)) (unmapped c) ws each
+  where
+    or_left : (a b : Bool) → a ≡ true → (a || b) ≡ true
+    or_left a b e = ap (λ t. t || b) e
+
+    each : (k : ℕ) (w : Window) → slice_get ws k ≡ Some w → ((w.owner == c) && w.mapped) ≡ true → is_reached (λ v. v.owner == c) ws (without_owner c ws) (unmapped c w) ≡ true
+    each k w e h =
+        let p = and_parts (w.owner == c) w.mapped h in
+        let found : window_in ws (unmapped c w).number ≡ Some w = ap (window_in ws) (unmapped_number c w) ∙ window_at w.number k ws (placed_here ws k w apart e) ∙ e in
+        let was : is_mapped (window_in ws (unmapped c w).number) ≡ true = ap is_mapped found ∙ p.1 in
+        let owned : ((unmapped c w).owner == c) ≡ true = ap (λ (j : ℕ). j == c) (unmapped_owner c w) ∙ p.0 in
+        (λ i. or_left (is_mapped (window_in ws (unmapped c w).number)) (unmapped c w).mapped was i && or_left ((unmapped c w).owner == c) (meets_window (named_in (λ v. v.owner == c) ws) (window_rect (unmapped c w)) || meets_window (named_in (λ v. v.owner == c) (without_owner c ws)) (window_rect (unmapped c w))) owned i)
+
+-- what a change costs, and what a death
+pub change_cost : (n : ℕ) (old new : List Window) (start after : ℕ) → AreDistinct old → AreDistinct new → after ≤ start + mending_cost (λ w. w.number == n) old new → after ≤ start + (8 * reached (λ w. w.number == n) old new + 16)
+change_cost n old new start after a b e = let f = one_named n old a in let g = one_named n new b in omega (arith, e, f, g)
+
+pub death_cost : (c : ℕ) (old : List Window) (start after : ℕ) → AreDistinct old → after ≤ start + mending_cost (λ w. w.owner == c) old (without_owner c old) → after ≤ start + (8 * reached (λ w. w.owner == c) old (without_owner c old) + 16)
+death_cost c old start after a e = let f = dead_reached c old a in let g = dead_unmapped c old in omega (arith, e, f, g)

@@ -9,9 +9,8 @@ use Rattle.dri_base.specs.declared.scene.Window.{Window}
 use Rattle.dri_base.specs.Ranges.{IsWithin, WindowInRange}
 use Rattle.dri_model.specs.Counting.{how_many}
 use Rattle.dri_model.specs.Stacks.{is_touched, restamped, touches}
-use Rattle.dri_clips.specs.declared.layout.Layout.{Layout}
 use Rattle.dri_clips.specs.declared.stamps.Restamped.{Restamped}
-use Rattle.dri_clips.specs.Layouts.{AreLayouts, IsAbsent, IsRestamped, SameNumbers}
+use Rattle.dri_clips.specs.Layouts.{IsAbsent, IsRestamped, SameNumbers}
 use Rattle.dri_clips.proofs.Placing.{origin_absent}
 use Rattle.dri_clips.proofs.Comparing.{same_absent}
 
@@ -113,8 +112,8 @@ absent_out n (w ∷ ws) f all = (f w.number (all 0 w (omega arith)).numbered, ab
 untouched : (width height n : ℕ) (old new : List Window) → IsAbsent n old → IsAbsent n new → is_touched width height old new n ≡ false
 untouched width height n old new a b = rw (← same_absent width height n old new a b, origin_absent n old a, origin_absent n new b) refl
 
-pub touched_none : (old new : Layout) → AreLayouts old new → is_touched old.width old.height old.stack new.stack 0 ≡ false
-touched_none old new l = untouched old.width old.height 0 old.stack new.stack (absent_out 0 old.stack out l.before.ranged) (absent_out 0 new.stack out l.after.ranged)
+pub touched_none : (width height : ℕ) (old new : List Window) → All WindowInRange old → SameNumbers old new → is_touched width height old new 0 ≡ false
+touched_none width height old new ranged same = let gone : IsAbsent 0 old = absent_out 0 old out ranged in untouched width height 0 old new gone ((same 0).0 gone)
   where
     out : (k : ℕ) → IsWithin 1 64 k → (k == 0) ≡ false
     out k w = ne_eqb k 0 (λ e. omega (arith, w.0))
@@ -126,15 +125,15 @@ touches_most width height old new ranged same =
     let below = many_most (is_touched width height old new) (untouched width height 0 old new gone ((same 0).0 gone)) 65 (omega arith) in
     omega (arith, below)
 
-touched_far : (old new : Layout) (n : ℕ) → AreLayouts old new → 65 ≤ n → is_touched old.width old.height old.stack new.stack n ≡ false
-touched_far old new n l far = untouched old.width old.height n old.stack new.stack (absent_out n old.stack out l.before.ranged) (absent_out n new.stack out l.after.ranged)
+touched_far : (width height : ℕ) (old new : List Window) (n : ℕ) → All WindowInRange old → SameNumbers old new → 65 ≤ n → is_touched width height old new n ≡ false
+touched_far width height old new n ranged same far = let gone : IsAbsent n old = absent_out n old out ranged in untouched width height n old new gone ((same n).0 gone)
   where
     out : (k : ℕ) → IsWithin 1 64 k → (k == n) ≡ false
     out k w = ne_eqb k n (λ e. omega (arith, w.1))
 
 -- all stamps
-pub all_stamps : (old new : Layout) (start : ℕ) (were : List ℕ) (r : Restamped) → AreLayouts old new → IsRestamped (is_touched old.width old.height old.stack new.stack) 65 start were r → (n : ℕ) → slice_index_or r.stamps n 1 ≡ restamped old.width old.height old.stack new.stack start (λ k. slice_index_or were k 1) n
-all_stamps old new start were r l is n = is.stamps n ∙ (elim (cases_lt n 65) [
+pub all_stamps : (width height : ℕ) (old new : List Window) (start : ℕ) (were : List ℕ) (r : Restamped) → All WindowInRange old → SameNumbers old new → IsRestamped (is_touched width height old new) 65 start were r → (n : ℕ) → slice_index_or r.stamps n 1 ≡ restamped width height old new start (λ k. slice_index_or were k 1) n
+all_stamps width height old new start were r ranged same is n = is.stamps n ∙ (elim (cases_lt n 65) [
   | inl below ↦ let e : nat_lt n 65 ≡ true = lt-ltb n 65 below in rw e refl
-  | inr far ↦ let e : nat_lt n 65 ≡ false = le-ltb n 65 far in rw (e, touched_far old new n l far) refl
+  | inr far ↦ let e : nat_lt n 65 ≡ false = le-ltb n 65 far in rw (e, touched_far width height old new n ranged same far) refl
 ])

@@ -1,42 +1,29 @@
 -- The board after a change, and what it tells of it.
-use Rattle.std.proofs.Common.{◌≡◌, ◌↔◌, ℕ, List, Option, None, Some, Ok, Err, refl, sym, ◌∙◌, ap, subst, is_some}
-use Rattle.std.specs.Prelude.{slice_index_or, filter, ◌+◌}
-use Rattle.std.specs.List.{range_with_len}
+use Rattle.std.proofs.Common.{◌≡◌, ◌↔◌, ℕ, List, Option, None, Some, Ok, Err, refl, sym, ◌∙◌, ap, is_some}
+use Rattle.std.specs.Prelude.{All}
 use Rattle.std.specs.declared.result.Result.{Result}
 use Rattle.std.proofs.lemmas.Bool.{true≢false}
 use Rattle.dri_base.specs.declared.colour.Rgb.{Rgb}
 use Rattle.dri_base.specs.declared.scene.Window.{Window}
-use Rattle.dri_model.specs.Stacks.{Refusal, is_touched, restamped, touches}
+use Rattle.dri_base.specs.Ranges.{WindowInRange}
+use Rattle.dri_model.specs.Stacks.{Refusal, is_touched}
 use Rattle.dri_clips.specs.declared.change.ChangeFault.{ChangeFault}
 use Rattle.dri_clips.specs.declared.change.ChangeFault.TheVariants as Fault_is
-use Rattle.dri_clips.specs.declared.layout.Layout.{Layout}
 use Rattle.dri_clips.specs.declared.stamps.Restamped.{Restamped}
-use Rattle.dri_clips.specs.declared.touched.Paint.{Paint}
 use Rattle.dri_clips.specs.Boards.{IsRestacked}
-use Rattle.dri_clips.specs.Layouts.{AreLayouts, IsRestamped, SameNumbers, IsLayout}
-use Rattle.dri_clips.specs.Paints.{ArePaints, IsTouched}
+use Rattle.dri_clips.specs.Layouts.{IsRestamped, SameNumbers}
 use Rattle.dri_clips.specs.Refusals.{IsRefused, fault_of}
 use Rattle.dri_clips.proofs.Stamping.{all_stamps}
 
-pub both_layouts : (old new : Layout) (stack : List Window) → IsLayout old → IsLayout new → new.width ≡ old.width → new.height ≡ old.height → new.stack ≡ stack → SameNumbers old.stack stack → AreLayouts old new
-both_layouts old new stack before after wide high is same = record { before = before; after = after; wide = wide; high = high; numbers = subst (λ (ws : List Window). SameNumbers old.stack ws) (sym is) same }
-
-pub restacked : (old new : Layout) (root : Rgb) (stamps : List ℕ) (start : ℕ) (r : Restamped) (stack : List Window) → AreLayouts old new → new.stack ≡ stack → IsRestamped (is_touched old.width old.height old.stack new.stack) 65 start stamps r →
-    IsRestacked stack (record { width = old.width; height = old.height; root = root; stack = old.stack; stamps = stamps; counter = start }) (record { width = new.width; height = new.height; root = root; stack = new.stack; stamps = r.stamps; counter = r.counter })
-restacked old new root stamps start r stack l e is = record {
-  width = l.wide;
-  height = l.high;
+pub restacked : (width height wide high : ℕ) (root : Rgb) (old new next : List Window) (stamps : List ℕ) (start : ℕ) (r : Restamped) → wide ≡ width → high ≡ height → next ≡ new → All WindowInRange old → SameNumbers old new → IsRestamped (is_touched width height old new) 65 start stamps r →
+    IsRestacked new (record { width = width; height = height; root = root; stack = old; stamps = stamps; counter = start }) (record { width = wide; height = high; root = root; stack = next; stamps = r.stamps; counter = r.counter })
+restacked width height wide high root old new next stamps start r e f g ranged same is = record {
+  width = e;
+  height = f;
   root = refl;
-  windows = e;
-  stamps = λ i n. (all_stamps old new start stamps r l is n ∙ ap (λ (ws : List Window). restamped old.width old.height old.stack ws start (λ k. slice_index_or stamps k 1) n) e) i;
-  counter = is.counter ∙ ap (λ (ws : List Window). start + touches old.width old.height old.stack ws) e;
-}
-
-pub told_touched : (old new : Layout) (root : Rgb) (stamps : List ℕ) (start : ℕ) (r : Restamped) (stack : List Window) (paints : List Paint) → new.stack ≡ stack → IsRestamped (is_touched old.width old.height old.stack new.stack) 65 start stamps r → ArePaints old.width old.height root old.stack new.stack paints →
-    IsTouched (record { width = old.width; height = old.height; root = root; stack = old.stack; stamps = stamps; counter = start }) stack (record { windows = r.touched; paints = paints })
-told_touched old new root stamps start r stack paints e is painted = record {
-  windows = subst (λ (ws : List Window). r.touched ≡ filter (is_touched old.width old.height old.stack ws) (range_with_len 0 65)) e is.numbers;
-  paints = subst (λ (ws : List Window). ArePaints old.width old.height root old.stack ws paints) e painted;
+  windows = g;
+  stamps = λ i n. all_stamps width height old new start stamps r ranged same is n i;
+  counter = is.counter;
 }
 
 -- refusals

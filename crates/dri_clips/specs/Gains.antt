@@ -1,12 +1,11 @@
 -- The regions that a new layout paints, and the paints of a region.
-use Rattle.std.specs.Prelude.{ℕ, ℤ, pos, List, true, ◌&&◌, ◌||◌, not, ◌≡◌, ◌≤ℤ◌, ◌<◌, Option, None, Some, slice_get, take, is_some, is_none, if◌then◌else◌, unsigned_abs, All, AllPairs}
+use Rattle.std.specs.Prelude.{ℕ, ℤ, pos, List, true, ◌&&◌, ◌||◌, not, ◌≡◌, ◌≤ℤ◌, ◌<◌, Option, None, take, is_some, is_none, if◌then◌else◌, unsigned_abs, All, AllPairs}
 use Rattle.dri_base.specs.declared.colour.Rgb.{Rgb}
 use Rattle.dri_base.specs.declared.scene.Window.{Window}
 use Rattle.dri_base.specs.declared.shape.ClipRect.{ClipRect}
 use Rattle.dri_base.specs.declared.shape.Rect.{Rect}
 use Rattle.dri_rect.specs.Pixels.{has_pixel, inside}
 use Rattle.dri_model.specs.Stacks.{top}
-use Rattle.dri_clips.specs.declared.layout.Layout.{Layout}
 use Rattle.dri_clips.specs.declared.touched.Paint.{Paint}
 use Rattle.dri_clips.specs.Boards.{shows}
 use Rattle.dri_clips.specs.Layouts.{screen_rect}
@@ -33,10 +32,9 @@ pub record IsRectOnScreen (width height : ℕ) (r : Rect) : Type 0 where
 abbrev pub AreOnScreen : ℕ → ℕ → List Rect → Type 0
 AreOnScreen width height rects = (x y : ℤ) → inside rects x y ≡ true → has_pixel (screen_rect width height) x y ≡ true
 
--- the rectangles have the pixels at which the window at this place shows now and didn't before
-abbrev pub IsGain : Layout → Layout → ℕ → List Rect → Type 0
-IsGain old new at rects =
-    (w : Window) → slice_get new.stack at ≡ Some w → (x y : ℤ) → inside rects x y ≡ (shows new.width new.height new.stack w.number x y && not (shows old.width old.height old.stack w.number x y))
+-- the rectangles have the pixels at which window n shows now and didn't before
+abbrev pub IsGain : ℕ → ℕ → List Window → List Window → ℕ → List Rect → Type 0
+IsGain width height old new n rects = (x y : ℤ) → inside rects x y ≡ (shows width height new n x y && not (shows width height old n x y))
 
 -- what a pixel is painted with by the root and the first k windows: all of it where none of the windows shows, or one of the first k
 abbrev pub partly_repaint : Rgb → List Window → List Window → ℕ → ℕ → ℕ → Option Rgb

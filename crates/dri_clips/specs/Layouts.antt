@@ -1,14 +1,14 @@
--- What shows of a stack, as one walk from top to bottom makes it.
-use Rattle.std.specs.Prelude.{ℕ, ℤ, zero, suc, pos, ◌+ℤ◌, List, [], ◌∷◌, Bool, true, false, ◌&&◌, not, ◌≡◌, ◌==◌, All, filter, length, slice_index_or, nat_lt, if◌then◌else◌, ◌+◌}
+-- A stack with what shows of it.
+use Rattle.std.specs.Prelude.{ℕ, ℤ, zero, suc, pos, ◌+ℤ◌, List, [], ◌∷◌, Bool, true, false, ◌&&◌, ◌≡◌, ◌<◌, ◌==◌, All, filter, length, is_none, slice_index_or, nat_lt, if◌then◌else◌, ◌+◌, Option, None, Some}
 use Rattle.std.specs.List.{AllByRecursion, range_with_len}
 use Rattle.dri_base.specs.declared.scene.Window.{Window}
 use Rattle.dri_base.specs.declared.shape.Rect.{Rect}
 use Rattle.dri_base.specs.Ranges.{IsSide, WindowInRange}
 use Rattle.dri_rect.specs.Pixels.{has_pixel, inside}
 use Rattle.dri_clips.specs.declared.layout.Layout.{Layout}
-use Rattle.dri_clips.specs.declared.layout.Split.{Split}
 use Rattle.dri_clips.specs.declared.stamps.Restamped.{Restamped}
 use Rattle.dri_model.specs.Counting.{how_many}
+use Rattle.dri_clips.specs.Boards.{shows}
 
 -- the window's rectangle
 abbrev pub window_rect : Window → Rect
@@ -27,9 +27,9 @@ abbrev pub IsAbsent : ℕ → List Window → Type 0
 IsAbsent n ws = AllByRecursion (λ w. (w.number == n) ≡ false) ws
 
 -- no two windows have one number
-abbrev pub AreApart : List Window → Type 0
-AreApart [] = Unit {0}
-AreApart (w ∷ ws) = IsAbsent w.number ws × AreApart ws
+abbrev pub AreDistinct : List Window → Type 0
+AreDistinct [] = Unit {0}
+AreDistinct (w ∷ ws) = IsAbsent w.number ws × AreDistinct ws
 
 -- window n is at place i from the top, and no window above it has its number
 abbrev pub IsPlaced : ℕ → ℕ → List Window → Type 0
@@ -41,33 +41,20 @@ IsPlaced n (suc i) (w ∷ ws) = ((w.number == n) ≡ false) × IsPlaced n i ws
 abbrev pub SameNumbers : List Window → List Window → Type 0
 SameNumbers old new = (n : ℕ) → (IsAbsent n old → IsAbsent n new) × (IsAbsent n new → IsAbsent n old)
 
--- what is free, cut by a window: the part that it takes, and the rest
-pub record IsCut (free : List Rect) (w : Window) (split : Split) : Type 0 where
-  pub part : (x y : ℤ) → inside split.part x y ≡ (inside free x y && covers w x y)
-  pub rest : (x y : ℤ) → inside split.rest x y ≡ (inside free x y && not (covers w x y))
+-- the topmost window at a place, which may lie off the screen
+abbrev pub top_at : List Window → ℤ → ℤ → Option Window
+top_at [] x y = None
+top_at (w ∷ ws) x y = if covers w x y then Some w else top_at ws x y
 
--- the regions that the windows take in turn of the set that is free, and the region that is left
-abbrev pub AreCuts : (ℤ → ℤ → Bool) → List Window → List (List Rect) → List Rect → Type 0
-AreCuts free [] [] rest = (x y : ℤ) → inside rest x y ≡ free x y
-AreCuts free [] (c ∷ cs) rest = ⊥
-AreCuts free (w ∷ ws) [] rest = ⊥
-AreCuts free (w ∷ ws) (c ∷ cs) rest = ((x y : ℤ) → inside c x y ≡ (free x y && covers w x y)) × AreCuts (λ x y. free x y && not (covers w x y)) ws cs rest
-
--- the regions of a layout are those of its stack
+-- each window number's region has the pixels at which that window shows, and the free region those of no window
 pub record IsLayout (l : Layout) : Type 0 where
   pub wide : IsSide l.width
   pub high : IsSide l.height
   pub ranged : All WindowInRange l.stack
-  pub apart : AreApart l.stack
-  pub cuts : AreCuts (has_pixel (screen_rect l.width l.height)) l.stack l.clips.items l.free
-
--- the two are layouts of one screen, with windows of the same numbers
-pub record AreLayouts (old new : Layout) : Type 0 where
-  pub before : IsLayout old
-  pub after : IsLayout new
-  pub wide : new.width ≡ old.width
-  pub high : new.height ≡ old.height
-  pub numbers : SameNumbers old.stack new.stack
+  pub apart : AreDistinct l.stack
+  pub room : length l.clips.items ≡ 65
+  pub clips : (n : ℕ) → n < 65 → (x y : ℤ) → inside (slice_index_or l.clips.items n []) x y ≡ shows l.width l.height l.stack n x y
+  pub free : (x y : ℤ) → inside l.free x y ≡ (has_pixel (screen_rect l.width l.height) x y && is_none (top_at l.stack x y))
 
 -- the stamps, the counter and the touched numbers after the numbers below n
 pub record IsRestamped (touched : ℕ → Bool) (n start : ℕ) (were : List ℕ) (r : Restamped) : Type 0 where

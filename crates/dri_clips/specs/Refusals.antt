@@ -31,9 +31,6 @@ altered_by (Lower n) w = w
 
 -- the place of the changed window afterwards, where it was at this place and the lowest place is the last
 abbrev pub destination : Change → ℕ → ℕ → ℕ
-destination (Map n) at last = at
-destination (Unmap n) at last = at
-destination (Move n x y) at last = at
-destination (Resize n width height) at last = at
 destination (Raise n) at last = 0
 destination (Lower n) at last = last
+destination change at last = at

@@ -1,17 +1,21 @@
 //! The board. It keeps the window stack, a clip list for each window, and a stamp for each window number.
 
-ghost use Rattle.std.specs.Prelude.{ℕ, ◌≡◌, ◌≤◌, ◌↔◌, None, Some, Err, IfOk, OnOk, OnErr, All, Contains};
+ghost use Rattle.std.specs.Prelude.{ℕ, ◌≡◌, ◌≤◌, ◌+◌, ◌*◌, ◌↔◌, None, Some, Err, IfOk, IfSome, OnOk, OnErr, All, Contains};
 ghost use Rattle.dri_base.specs.declared.command.Change.{Change};
 ghost use Rattle.dri_base.specs.Ranges.{InRange, WindowInRange, WindowsInRange, window_numbers};
 ghost use Rattle.dri_base.specs.Limits.{last_stamp};
 ghost use Rattle.dri_model.specs.Stacks.{Refusal, origin, refusal, stack_after, touches, window_in, without_owner};
 ghost use Rattle.dri_clips.specs.declared.change.ChangeFault.TheVariants.{NoWindow, OutOfRange, AlreadyMapped, NotMapped};
+ghost use Rattle.dri_clips.specs.Areas.{is_named, is_owned, names, others, reached};
 ghost use Rattle.dri_clips.specs.Boards.{AreClipsOf, IsOpening, IsRestacked, is_mapped, stamps_of};
 ghost use Rattle.dri_clips.specs.Layouts.{SameNumbers};
+ghost use Rattle.dri_clips.specs.Mends.{mending_cost};
 ghost use Rattle.dri_clips.specs.Paints.{IsTouched};
 
-use crate::change::{changed, place_to_change, without_owner};
+use crate::cause::Cause;
+use crate::change::{place_to_change, stack_after, without_owner};
 use crate::layout::Layout;
+use crate::mending::mend;
 use crate::paints::paints;
 use crate::stack::Stack;
 use crate::stamps::restamp;
@@ -56,20 +60,30 @@ impl Board {
     fn restack<L: Ledger>(
         &mut self,
         alloc: Global,
+        cause: &Cause,
         stack: Stack,
         steps: &mut Steps<L>,
     ) -> Result<Touched, OutOfMemory>
         requires counter { self.old.counter ≤ last_stamp }
         requires ranged { All WindowInRange stack }
         requires numbers { SameNumbers self.old.stack stack }
+        requires others { others (names cause.now) self.old.stack ≡ others (names cause.now) stack }
         ensures ok { OnOk result (IsRestacked stack self.old self.new) }
         ensures touched { IfOk result (IsTouched self.old stack) }
         ensures err { OnErr result (self.new ≡ self.old) }
+        ensures steps { steps.new ≤ steps.old + mending_cost (names cause.now) self.old.stack stack }
     {
-        let layout = Layout::new(alloc, self.layout.width, self.layout.height, stack, steps)?;
-        let new = restamp(alloc, &self.layout, &layout, &self.stamps, self.counter)?;
-        let paints = paints(alloc, self.root, &self.layout, &layout, steps)?;
-        self.layout = layout;
+        let mended = mend(alloc, cause, &self.layout, &stack, steps)?;
+        let new = restamp(
+            alloc,
+            &self.layout,
+            &stack,
+            &mended,
+            &self.stamps,
+            self.counter,
+        )?;
+        let paints = paints(alloc, self.root, &self.layout, &stack, &mended)?;
+        self.layout.put(stack, mended);
         let stamps = new.stamps;
         self.stamps = stamps;
         self.counter = new.counter;
@@ -96,10 +110,14 @@ impl Board {
         ensures already_mapped { (result ≡ Err AlreadyMapped) ↔ (refusal change.now self.old.stack ≡ Some Refusal.AlreadyMapped) }
         ensures not_mapped { (result ≡ Err NotMapped) ↔ (refusal change.now self.old.stack ≡ Some Refusal.NotMapped) }
         ensures err { OnErr result (self.new ≡ self.old) }
+        ensures steps { steps.new ≤ steps.old + (8 * reached (is_named change.now) self.old.stack (stack_after change.now self.old.stack) + 16) }
+        ensures refused { IfSome (refusal change.now self.old.stack) (λ _. steps.new ≡ steps.old) }
     {
         let at = place_to_change(&self.layout.stack, change)?;
-        let stack = changed(&self.layout.stack, at, change)?;
-        Ok(self.restack(alloc, stack, steps)?)
+        let stack = stack_after(&self.layout.stack, at, change)?;
+        stack.arranged();
+        let cause = Cause::Window(change.window());
+        Ok(self.restack(alloc, &cause, stack, steps)?)
     }
 
     /// Unmaps each window of an owner, as one change, and tells what it touched. Where memory is wanting the board stays
@@ -114,9 +132,10 @@ impl Board {
         ensures ok { OnOk result (IsRestacked (without_owner owner self.old.stack) self.old self.new) }
         ensures touched { IfOk result (IsTouched self.old (without_owner owner self.old.stack)) }
         ensures err { OnErr result (self.new ≡ self.old) }
+        ensures steps { steps.new ≤ steps.old + (8 * reached (is_owned owner) self.old.stack (without_owner owner self.old.stack) + 16) }
     {
         let stack = without_owner(&self.layout.stack, owner)?;
-        self.restack(alloc, stack, steps)
+        self.restack(alloc, &Cause::Owner(owner), stack, steps)
     }
 
     /// The stamp of a window that is on the board.
@@ -132,8 +151,7 @@ impl Board {
         requires { Contains (window_numbers self.now.stack) window }
         ensures { AreClipsOf self.now window result.now }
     {
-        let at = self.layout.stack.place(window).unwrap();
-        &self.layout.clips[at]
+        &self.layout.clips[window as usize]
     }
 
     /// The upper left corner of a window that is on the board.
@@ -141,7 +159,7 @@ impl Board {
         requires { Contains (window_numbers self.now.stack) window }
         ensures { (result.x, result.y) ≡ origin self.now.stack window }
     {
-        self.layout.origin(window)
+        self.layout.stack.origin(window)
     }
 
     /// Whether a window that is on the board is mapped.

@@ -1,7 +1,8 @@
 //! Which changes the board refuses, and the stack after one that it doesn't.
 
 ghost use Rattle.std.specs.Prelude.{◌≡◌, ◌&&◌, None, true, false, IfOk, OnOk, IfErr};
-ghost use Rattle.dri_model.specs.Stacks.{changed, named_by, refusal, refused_at, stack_after, unmapped, without_owner};
+ghost use Rattle.dri_base.specs.Scenes.{named_by};
+ghost use Rattle.dri_model.specs.Stacks.{changed, refusal, refused_at, stack_after, unmapped, without_owner};
 ghost use Rattle.dri_clips.specs.declared.change.ChangeFault.TheVariants.{OutOfMemory};
 ghost use Rattle.dri_clips.specs.Layouts.{IsPlaced};
 ghost use Rattle.dri_clips.specs.Refusals.{IsRefused, altered_by, destination};
@@ -35,24 +36,6 @@ impl From<OutOfMemory> for ChangeFault {
 
     fn from(_error: OutOfMemory) -> ChangeFault {
         ChangeFault::OutOfMemory
-    }
-}
-
-/// The window that a change names.
-fn named_by(change: &Change) -> u32
-    ensures { result ≡ named_by change.now }
-{
-    match *change {
-        Change::Map { window } => window,
-        Change::Unmap { window } => window,
-        Change::Move { window, x: _, y: _ } => window,
-        Change::Resize {
-            window,
-            width: _,
-            height: _,
-        } => window,
-        Change::Raise { window } => window,
-        Change::Lower { window } => window,
     }
 }
 
@@ -104,7 +87,8 @@ pub fn place_to_change(stack: &Stack, change: &Change) -> Result<usize, ChangeFa
     ensures ok { OnOk result (refusal change.now stack.now ≡ None) }
     ensures err { IfErr result (IsRefused (refusal change.now stack.now)) }
 {
-    let Some(at) = stack.place(named_by(change)) else {
+    let number = change.window();
+    let Some(at) = stack.place(number) else {
         return Err(ChangeFault::NoWindow);
     };
     allow_change(change, &stack.window(at))?;
@@ -151,7 +135,7 @@ fn destination(change: &Change, at: usize, last: usize) -> usize
 }
 
 /// Makes a change of the window at a place.
-fn make_change(stack: &mut Stack, at: usize, change: &Change)
+fn changed(stack: &mut Stack, at: usize, change: &Change)
     requires { IsPlaced (named_by change.now) at stack.old }
     ensures { stack.new ≡ changed change.now stack.old }
 {
@@ -162,13 +146,13 @@ fn make_change(stack: &mut Stack, at: usize, change: &Change)
 }
 
 /// The stack after a change of the window at a place, which the board doesn't refuse.
-pub fn changed(stack: &Stack, at: usize, change: &Change) -> Result<Stack, OutOfMemory>
+pub fn stack_after(stack: &Stack, at: usize, change: &Change) -> Result<Stack, OutOfMemory>
     requires there { IsPlaced (named_by change.now) at stack.now }
     requires allowed { refusal change.now stack.now ≡ None }
     ensures { IfOk result (λ new. new ≡ stack_after change.now stack.now) }
 {
     let mut next = stack.copy()?;
-    make_change(&mut next, at, change);
+    changed(&mut next, at, change);
     Ok(next)
 }
 

@@ -1,16 +1,22 @@
-//! A stack with what shows of it: a region for each window, in the stack's order, and the region that no window covers.
+//! A stack with what shows of it: a region for each window number, empty where the window shows nowhere, and the region
+//! that no window covers.
 
-ghost use Rattle.std.specs.Prelude.{◌≡◌, ◌<◌, not, length, All, IfOk};
+ghost use Rattle.std.specs.Prelude.{ℕ, None, ◌≡◌, ◌<◌, [], length, replicate, slice_index_or, All, IfOk};
 ghost use Rattle.dri_base.specs.Ranges.{IsSide, WindowInRange};
-ghost use Rattle.dri_model.specs.Stacks.{clips, is_touched, origin, same_set};
-ghost use Rattle.dri_clips.specs.Layouts.{AreLayouts, IsCut, IsLayout, screen_rect, window_rect};
+ghost use Rattle.dri_clips.specs.Layouts.{IsLayout};
+ghost use Rattle.dri_clips.specs.Mends.{AreMended, list_or};
 
-use crate::regions::same_region;
+use crate::area::screen;
+use crate::cause::Cause;
+use crate::mending::{Mended, Patch, mend};
 use crate::stack::Stack;
-use dri_base::{OutOfMemory, Point, Rect, Steps, Window};
+use dri_base::{OutOfMemory, Steps};
 use dri_rect::Region;
 use std::alloc::Global;
 use std::sync::ledger::Ledger;
+
+/// How many numbers there are: a window's is from 1 to 64.
+pub const NUMBERS: usize = 65;
 
 /// What shows of the windows of a stack on a screen.
 #[derive(Drop)]
@@ -22,67 +28,57 @@ pub struct Layout {
     pub free: Region,
 }
 
-/// What shows of a window, and what is left free below it.
-#[derive(Drop)]
-pub struct Split {
-    pub part: Region,
-    pub rest: Region,
+/// An empty region for each window number.
+fn no_clips<L: Ledger>(alloc: Global, steps: &mut Steps<L>) -> Result<Vec<Region>, OutOfMemory>
+    ensures { IfOk result (λ clips. clips.items ≡ replicate 65 []) }
+{
+    let mut clips = Vec::with_capacity(alloc, NUMBERS)?;
+    for _number in 0..NUMBERS {
+        clips.push(Region::empty(alloc, steps))?;
+    }
+    Ok(clips)
 }
 
-/// The window's rectangle.
-fn rect_of(window: &Window) -> Rect
-    requires { WindowInRange window.now }
-    ensures { result ≡ window_rect window.now }
+/// Puts the new lists in place.
+fn put_lists(clips: &mut Vec<Region>, lists: Vec<Option<Patch>>)
+    requires clips { length clips.old.items ≡ 65 }
+    requires lists { length lists.items ≡ 65 }
+    ensures room { length clips.new.items ≡ 65 }
+    ensures lists { (n : ℕ) → n < 65 → slice_index_or clips.new.items n [] ≡ list_or (slice_index_or lists.items n None) (slice_index_or clips.old.items n []) }
 {
-    Rect {
-        x1: window.x,
-        y1: window.y,
-        x2: window.x + window.width as i32,
-        y2: window.y + window.height as i32,
+    let mut lists = lists;
+    while let Some(list) = lists.pop() {
+        if let Some(patch) = list {
+            clips[lists.len()] = patch.clips;
+        }
     }
-}
-
-/// The screen's rectangle.
-fn screen(width: u32, height: u32) -> Rect
-    requires wide { IsSide width }
-    requires high { IsSide height }
-    ensures { result ≡ screen_rect width height }
-{
-    Rect {
-        x1: 0,
-        y1: 0,
-        x2: width as i32,
-        y2: height as i32,
-    }
-}
-
-/// Cuts a window out of what is free.
-fn cut<L: Ledger>(
-    alloc: Global,
-    free: Region,
-    window: &Window,
-    steps: &mut Steps<L>,
-) -> Result<Split, OutOfMemory>
-    requires { WindowInRange window.now }
-    ensures { IfOk result (λ split. IsCut free window.now split) }
-{
-    if !window.mapped {
-        return Ok(Split {
-            part: Region::empty(alloc, steps),
-            rest: free,
-        });
-    }
-    let rect = Region::of_rect(alloc, &rect_of(window), steps)?;
-    let part = free.intersect(alloc, &rect, steps)?;
-    if part.len() == 0 {
-        return Ok(Split { part, rest: free });
-    }
-    let rest = free.subtract(alloc, &rect, steps)?;
-    Ok(Split { part, rest })
 }
 
 impl Layout {
-    /// The layout of a stack: each mapped window in turn is cut out of the screen.
+    /// A screen without windows.
+    fn bare<L: Ledger>(
+        alloc: Global,
+        width: u32,
+        height: u32,
+        steps: &mut Steps<L>,
+    ) -> Result<Layout, OutOfMemory>
+        requires wide { IsSide width }
+        requires high { IsSide height }
+        ensures stack { IfOk result (λ l. l.stack ≡ []) }
+        ensures width { IfOk result (λ l. l.width ≡ width) }
+        ensures height { IfOk result (λ l. l.height ≡ height) }
+        ensures layout { IfOk result IsLayout }
+    {
+        Ok(Layout {
+            width,
+            height,
+            stack: Stack::empty(alloc),
+            clips: no_clips(alloc, steps)?,
+            free: Region::of_rect(alloc, &screen(width, height), steps)?,
+        })
+    }
+
+    /// The layout of a stack. Each window is new to the screen.
     pub fn new<L: Ledger>(
         alloc: Global,
         width: u32,
@@ -98,62 +94,24 @@ impl Layout {
         ensures height { IfOk result (λ l. l.height ≡ height) }
         ensures layout { IfOk result IsLayout }
     {
-        let mut free = Region::of_rect(alloc, &screen(width, height), steps)?;
-        let mut clips = Vec::with_capacity(alloc, stack.len())?;
-        for at in 0..stack.len() {
-            let split = cut(alloc, free, &stack.window(at), steps)?;
-            clips.push(split.part)?;
-            free = split.rest;
-        }
-        Ok(Layout {
-            width,
-            height,
-            stack,
-            clips,
-            free,
-        })
+        let mut layout = Layout::bare(alloc, width, height, steps)?;
+        let mended = mend(alloc, &Cause::Opening, &layout, &stack, steps)?;
+        layout.put(stack, mended);
+        Ok(layout)
     }
 
-    /// The upper left corner of a window. One that isn't there has (0, 0).
-    pub fn origin(&self, number: u32) -> Point
-        ensures { (result.x, result.y) ≡ origin self.now.stack number }
+    /// Puts a new stack with its lists in place. It takes no memory.
+    pub fn put(&mut self, stack: Stack, mended: Mended)
+        requires layout { IsLayout self.old }
+        requires ranged { All WindowInRange stack }
+        requires mended { AreMended self.old stack mended }
+        ensures stack { self.new.stack ≡ stack }
+        ensures width { self.new.width ≡ self.old.width }
+        ensures height { self.new.height ≡ self.old.height }
+        ensures layout { IsLayout self.new }
     {
-        let Some(at) = self.stack.place(number) else {
-            return Point { x: 0, y: 0 };
-        };
-        let window = self.stack.window(at);
-        Point {
-            x: window.x,
-            y: window.y,
-        }
+        put_lists(&mut self.clips, mended.windows);
+        self.free = mended.root.clips;
+        self.stack = stack;
     }
-}
-
-/// Whether a window shows at the same pixels in both layouts.
-fn has_same_clips(old: &Layout, new: &Layout, number: u32) -> bool
-    requires { AreLayouts old.now new.now }
-    ensures { result ≡ same_set old.now.width old.now.height (clips old.now.width old.now.height old.now.stack number) (clips old.now.width old.now.height new.now.stack number) }
-{
-    // Both have the same windows.
-    let Some(before) = old.stack.place(number) else {
-        return true;
-    };
-    let Some(after) = new.stack.place(number) else {
-        return true;
-    };
-    let was = &old.clips[before];
-    let is = &new.clips[after];
-    was.canonical(is);
-    same_region(was, is)
-}
-
-/// Whether a window's clip set or origin differs.
-pub fn is_touched(old: &Layout, new: &Layout, number: u32) -> bool
-    requires { AreLayouts old.now new.now }
-    ensures { result ≡ is_touched old.now.width old.now.height old.now.stack new.now.stack number }
-{
-    if !has_same_clips(old, new, number) {
-        return true;
-    }
-    old.origin(number) != new.origin(number)
 }

@@ -1,15 +1,19 @@
 //! The windows of a screen: their stack, the pixels at which each of them shows, and the stamps that tell a client that
 //! its window's pixels or corner changed.
 //!
-//! The stack is an index map by window number, from top to bottom. With it stand a region for each window, the screen's
-//! pixels at which it shows, and the region that no window covers. One walk from top to bottom makes them: what is still
-//! free of the screen is cut by each mapped window in turn. A change makes the new stack and its regions beside the old
-//! ones, finds by them what changed, and then puts them in place. So where memory is wanting nothing has changed.
+//! The stack is an index map by window number, from top to bottom. With it stand a region for each window number, the
+//! screen's pixels at which that window shows, and the region that no window covers. A change makes the new stack beside
+//! the old one, and mends the regions within its area, which is the union of the old and new rectangles of the windows that
+//! it names: one walk over the area from top to bottom gives each window that it meets its part. What each window gained,
+//! the stamps and the paints come by that walk. Only then is all put in place, so where memory is wanting nothing has changed.
 #![tactic(auto)]
 
+mod area;
 mod board;
+mod cause;
 mod change;
 mod layout;
+mod mending;
 mod paints;
 mod regions;
 mod stack;
@@ -18,4 +22,5 @@ mod touched;
 
 pub use board::Board;
 pub use change::ChangeFault;
+pub use paints::clip_rect;
 pub use touched::{Paint, Paints, Touched};

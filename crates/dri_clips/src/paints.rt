@@ -1,23 +1,25 @@
-//! What is painted in front under a new layout: where the topmost window changed, the new one's background, or the root
+//! What is painted in front under a new stack: where the topmost window changed, the new one's background, or the root
 //! colour.
 
-ghost use Rattle.std.specs.Prelude.{◌≡◌, ◌++◌, ◌<◌, ◌&&◌, ℤ, not, map, length, AllPairs, IfOk, OnOk};
+ghost use Rattle.std.specs.Prelude.{◌≡◌, ◌++◌, map, All, AllPairs, IfOk, OnOk};
 ghost use Rattle.std.specs.List.{AllByRecursion};
-ghost use Rattle.dri_rect.specs.Pixels.{inside, IsApart, IsProper};
-ghost use Rattle.dri_clips.specs.Gains.{AreOnScreen, IsGain, IsRectOnScreen, clip_rect, paint_of};
-ghost use Rattle.dri_clips.specs.Layouts.{AreLayouts};
+ghost use Rattle.dri_base.specs.Ranges.{WindowInRange};
+ghost use Rattle.dri_rect.specs.Pixels.{IsApart, IsProper};
+ghost use Rattle.dri_clips.specs.Gains.{AreOnScreen, IsRectOnScreen, clip_rect, paint_of};
+ghost use Rattle.dri_clips.specs.Layouts.{IsLayout};
+ghost use Rattle.dri_clips.specs.Mends.{AreMended};
 ghost use Rattle.dri_clips.specs.Paints.{ArePaints};
 
 use crate::layout::Layout;
-use crate::regions::same_region;
+use crate::mending::Mended;
+use crate::stack::Stack;
 use crate::{Paint, Paints};
-use dri_base::{ClipRect, OutOfMemory, Rect, Rgb, Steps};
+use dri_base::{ClipRect, OutOfMemory, Rect, Rgb};
 use dri_rect::Region;
 use std::alloc::Global;
-use std::sync::ledger::Ledger;
 
-/// A rectangle of the screen.
-fn clip_rect(rect: &Rect) -> ClipRect
+/// A rectangle of the screen, whose numbers are 0 to 1,024, as the card takes it.
+pub fn clip_rect(rect: &Rect) -> ClipRect
     requires { IsRectOnScreen 1024 1024 rect.now }
     ensures { result ≡ clip_rect rect.now }
 {
@@ -46,56 +48,26 @@ fn paint_region(paints: &mut Paints, region: &Region, colour: Rgb) -> Result<(),
     Ok(())
 }
 
-/// The pixels of the new region that the old one lacks.
-fn gained<L: Ledger>(
-    alloc: Global,
-    old: &Region,
-    new: &Region,
-    steps: &mut Steps<L>,
-) -> Result<Region, OutOfMemory>
-    ensures { IfOk result (λ region. (x y : ℤ) → inside region x y ≡ (inside new.now x y && not (inside old.now x y))) }
-{
-    if same_region(old, new) {
-        return Ok(Region::empty(alloc, steps));
-    }
-    new.subtract(alloc, old, steps)
-}
-
-/// The pixels at which the window at a place shows now and didn't before.
-fn gained_by<L: Ledger>(
-    alloc: Global,
-    old: &Layout,
-    new: &Layout,
-    at: usize,
-    steps: &mut Steps<L>,
-) -> Result<Region, OutOfMemory>
-    requires layouts { AreLayouts old.now new.now }
-    requires there { at < length new.now.stack }
-    ensures { IfOk result (IsGain old.now new.now at) }
-{
-    match old.stack.place(new.stack.window(at).number) {
-        Some(before) => gained(alloc, &old.clips[before], &new.clips[at], steps),
-        None => new.clips[at].copy(alloc, steps),
-    }
-}
-
-/// What a new layout paints.
-pub fn paints<L: Ledger>(
+/// What a new stack paints.
+pub fn paints(
     alloc: Global,
     root: Rgb,
     old: &Layout,
-    new: &Layout,
-    steps: &mut Steps<L>,
+    new: &Stack,
+    mended: &Mended,
 ) -> Result<Paints, OutOfMemory>
-    requires { AreLayouts old.now new.now }
-    ensures { IfOk result (ArePaints old.now.width old.now.height root old.now.stack new.now.stack) }
+    requires layout { IsLayout old.now }
+    requires ranged { All WindowInRange new.now }
+    requires mended { AreMended old.now new.now mended.now }
+    ensures { IfOk result (ArePaints old.now.width old.now.height root old.now.stack new.now) }
 {
     let mut paints = Paints::new(alloc);
-    let bared = gained(alloc, &old.free, &new.free, steps)?;
-    paint_region(&mut paints, &bared, root)?;
-    for at in 0..new.stack.len() {
-        let part = gained_by(alloc, old, new, at, steps)?;
-        paint_region(&mut paints, &part, new.stack.window(at).background)?;
+    paint_region(&mut paints, &mended.root.gained, root)?;
+    for at in 0..new.len() {
+        let window = new.window(at);
+        if let Some(patch) = &mended.windows[window.number as usize] {
+            paint_region(&mut paints, &patch.gained, window.background)?;
+        }
     }
     Ok(paints)
 }

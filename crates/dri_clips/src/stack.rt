@@ -1,10 +1,11 @@
 //! The window stack: an index map from window numbers to windows, from top to bottom.
 
-ghost use Rattle.std.specs.Prelude.{◌≡◌, ◌<◌, length, slice_get, slice_set, Some, IfOk, IfSome, IfNone};
+ghost use Rattle.std.specs.Prelude.{[], ◌≡◌, ◌<◌, length, slice_get, slice_set, Some, IfOk, IfSome, IfNone};
 ghost use Rattle.indexmap.specs.IndexMap.{move_index};
-ghost use Rattle.dri_clips.specs.Layouts.{AreApart, IsAbsent, IsPlaced};
+ghost use Rattle.dri_model.specs.Stacks.{origin};
+ghost use Rattle.dri_clips.specs.Layouts.{AreDistinct, IsAbsent, IsPlaced};
 
-use dri_base::{OutOfMemory, Window};
+use dri_base::{OutOfMemory, Point, Window};
 use indexmap::IndexMap;
 use std::alloc::Global;
 use std::marker::Model;
@@ -31,7 +32,7 @@ impl Model for Stack {
 impl Stack {
     /// The stack of these windows, no two of which have one number.
     pub fn from_windows(alloc: Global, windows: &[Window]) -> Result<Stack, OutOfMemory>
-        requires { AreApart windows.now }
+        requires { AreDistinct windows.now }
         ensures { IfOk result (λ stack. stack ≡ windows.now) }
     {
         let mut stack = IndexMap::with_capacity(alloc, windows.len())?;
@@ -39,6 +40,15 @@ impl Stack {
             stack.insert(window.number, *window)?;
         }
         Ok(Stack { windows: stack })
+    }
+
+    /// The stack of no window.
+    pub fn empty(alloc: Global) -> Stack
+        ensures { result ≡ [] }
+    {
+        Stack {
+            windows: IndexMap::new(alloc),
+        }
     }
 
     /// The same stack.
@@ -53,9 +63,16 @@ impl Stack {
     /// How many windows there are. No two of them have one number.
     pub fn len(&self) -> usize
         ensures len { result ≡ length self.now }
-        ensures apart { AreApart self.now }
+        ensures apart { AreDistinct self.now }
     {
         self.windows.len()
+    }
+
+    /// No two windows have one number. It does nothing: its contract is the law.
+    pub fn arranged(&self)
+        ensures { AreDistinct self.now }
+    {
+        let _count = self.len();
     }
 
     /// The place of a window, counted from 0 at the top, if it is there.
@@ -64,6 +81,20 @@ impl Stack {
         ensures absent { IfNone result (IsAbsent number self.now) }
     {
         self.windows.get_index_of(&number)
+    }
+
+    /// The upper left corner of a window. One that isn't there has (0, 0).
+    pub fn origin(&self, number: u32) -> Point
+        ensures { (result.x, result.y) ≡ origin self.now number }
+    {
+        let Some(at) = self.place(number) else {
+            return Point { x: 0, y: 0 };
+        };
+        let window = self.window(at);
+        Point {
+            x: window.x,
+            y: window.y,
+        }
     }
 
     /// The window at a place.

@@ -1,12 +1,13 @@
 -- Words that a reader takes to their end spell some groups, and those are loaded.
 use Rattle.std.proofs.Common.{◌≡◌, ℕ, ◌+◌, ◌-◌, ◌<◌, ◌≤◌, List, [], ◌∷◌, ◌++◌, Some, None, Bool, true, false, ◌==◌, ◌&&◌, nat_le, if◌then◌else◌, refl, sym, ap, subst, ◌∙◌, inl, inr, ◌⊎◌, arith}
 use Rattle.std.proofs.lemmas.Bool.{cases_Bool, cases_eq, cond-true, cond-false, and_parts, and_from, leb-true, le-leb, ltb-true}
+use Rattle.std.proofs.lemmas.Option.{same_Some, none-some}
 use Rattle.dri_base.specs.declared.state.Registers.{Registers}
 use Rattle.dri_base.specs.States.{default_state}
 use Rattle.dri_model.specs.Groups.{Groups, no_groups, shade_word, depth_word, flag_word, blend_word, mode_word, wrap_word}
 use Rattle.dri_model.specs.Words.{registers_for, group_words, bound_words, scissor_words, loaded, IsBoundInRange, IsScissorInRange, Spelled}
 use Rattle.dri_context.specs.Reading.{Reader, shade_of, depth_of, blend_of, mode_of, wrap_of, bound_of, scissor_of, run, opened}
-use Rattle.dri_context.proofs.Runs.{some_same, none_some, word_step}
+use Rattle.dri_context.proofs.Runs.{word_step}
 use Rattle.dri_context.proofs.Numbers.{shade_back, depth_back, flag_back, blend_back, mode_back, wrap_back, bound_back, scissor_back}
 
 -- a reader between groups, and at a group's first word
@@ -91,19 +92,19 @@ header_cases k r f s w ws e ran =
                 let more : 0x52000000 + (k + 1) ≤ w = omega (arith, other) in
                 inr (ap (λ o. run o ws) (cond-true (later && high) (Some inner) None (and_from later high (le-leb (0x52000000 + (k + 1)) w more) parts.1)) ∙ goes)
           ]
-      | inr out ↦ absurd (none_some e (sym (ap (λ o. run o ws) (cond-false (low && high) (Some inner) None out)) ∙ ran))
+      | inr out ↦ absurd (none-some e (sym (ap (λ o. run o ws) (cond-false (low && high) (Some inner) None out)) ∙ ran))
     ]
 
 -- behind the last group no word comes
 accepted7 : (r : Registers) (f s : ℕ) (words : List ℕ) (e : Reader) → run (Some (between 7 r f s)) words ≡ Some e → (words ≡ []) × (e.registers ≡ r)
-accepted7 r f s [] e ran = (refl, ap (λ x. x.registers) (sym (some_same (between 7 r f s) e ran)))
+accepted7 r f s [] e ran = (refl, ap (λ x. x.registers) (sym (same_Some (between 7 r f s) e ran)))
 accepted7 r f s (w ∷ ws) e ran =
     let inner : Reader = record { registers = r; group = w - 0x52000000; at = 1; first = f; second = s } in
     let low : Bool = nat_le 0x52000007 w in
     let high : Bool = nat_le w 0x52000006 in
     elim (cases_Bool (low && high)) as (λ _. (w ∷ ws ≡ []) × (e.registers ≡ r)) [
       | inl told ↦ let parts = and_parts low high told in absurd (omega (arith, leb-true 0x52000007 w parts.0, leb-true w 0x52000006 parts.1))
-      | inr out ↦ absurd (none_some e (sym (ap (λ o. run o ws) (cond-false (low && high) (Some inner) None out)) ∙ ran))
+      | inr out ↦ absurd (none-some e (sym (ap (λ o. run o ws) (cond-false (low && high) (Some inner) None out)) ∙ ran))
     ]
 
 cons_nil : {x : ℕ} {xs : List ℕ} → x ∷ xs ≡ [] → ⊥
@@ -117,7 +118,7 @@ abbrev plain : Registers
 plain = registers_for default_state None
 
 accepted6 : (r : Registers) (f s : ℕ) (words : List ℕ) (e : Reader) → run (Some (between 6 r f s)) words ≡ Some e → e.at ≡ 0 → Read from6 load6 words r e.registers
-accepted6 r f s [] e ran end = record { groups = no_groups; registers = plain; bound = tt; scissor = tt; spells = refl; loads = ap (λ x. x.registers) (sym (some_same (between 6 r f s) e ran)) }
+accepted6 r f s [] e ran end = record { groups = no_groups; registers = plain; bound = tt; scissor = tt; spells = refl; loads = ap (λ x. x.registers) (sym (same_Some (between 6 r f s) e ran)) }
 accepted6 r f s (w ∷ ws) e ran end = elim (header_cases 6 r f s w ws e ran) as (λ _. Read from6 load6 (w ∷ ws) r e.registers) [
   | inr other ↦ absurd (cons_nil (accepted7 r f s (w ∷ ws) e other).0)
   | inl here ↦ elim (word_step (within 6 r f s) e ws refl here.1) as (λ _. Read from6 load6 (w ∷ ws) r e.registers) [
@@ -151,7 +152,7 @@ accepted6 r f s (w ∷ ws) e ran end = elim (header_cases 6 r f s w ws e ran) as
 ]
 
 accepted5 : (r : Registers) (f s : ℕ) (words : List ℕ) (e : Reader) → run (Some (between 5 r f s)) words ≡ Some e → e.at ≡ 0 → Read from5 load5 words r e.registers
-accepted5 r f s [] e ran end = later5 r e [] (accepted6 r f s [] (between 6 r f s) refl refl) (ap (λ x. x.registers) (sym (some_same (between 5 r f s) e ran)))
+accepted5 r f s [] e ran end = later5 r e [] (accepted6 r f s [] (between 6 r f s) refl refl) (ap (λ x. x.registers) (sym (same_Some (between 5 r f s) e ran)))
   where
     later5 : (r : Registers) (e : Reader) (words : List ℕ) → Read from6 load6 words r r → e.registers ≡ r → Read from5 load5 words r e.registers
     later5 r e words t same = record { groups = record t.groups { bound = false }; registers = t.registers; bound = t.bound; scissor = t.scissor; spells = t.spells; loads = same ∙ t.loads }
@@ -188,7 +189,7 @@ accepted5 r f s (w ∷ ws) e ran end = elim (header_cases 5 r f s w ws e ran) as
 ]
 
 accepted4 : (r : Registers) (f s : ℕ) (words : List ℕ) (e : Reader) → run (Some (between 4 r f s)) words ≡ Some e → e.at ≡ 0 → Read from4 load4 words r e.registers
-accepted4 r f s [] e ran end = none r e (accepted5 r f s [] (between 5 r f s) refl refl) (ap (λ x. x.registers) (sym (some_same (between 4 r f s) e ran)))
+accepted4 r f s [] e ran end = none r e (accepted5 r f s [] (between 5 r f s) refl refl) (ap (λ x. x.registers) (sym (same_Some (between 4 r f s) e ran)))
   where
     none : (r : Registers) (e : Reader) → Read from5 load5 [] r r → e.registers ≡ r → Read from4 load4 [] r e.registers
     none r e t same = record { groups = record t.groups { wrap = false }; registers = t.registers; bound = t.bound; scissor = t.scissor; spells = t.spells; loads = same ∙ t.loads }
@@ -211,7 +212,7 @@ accepted4 r f s (w ∷ ws) e ran end = elim (header_cases 4 r f s w ws e ran) as
 ]
 
 accepted3 : (r : Registers) (f s : ℕ) (words : List ℕ) (e : Reader) → run (Some (between 3 r f s)) words ≡ Some e → e.at ≡ 0 → Read from3 load3 words r e.registers
-accepted3 r f s [] e ran end = none r e (accepted4 r f s [] (between 4 r f s) refl refl) (ap (λ x. x.registers) (sym (some_same (between 3 r f s) e ran)))
+accepted3 r f s [] e ran end = none r e (accepted4 r f s [] (between 4 r f s) refl refl) (ap (λ x. x.registers) (sym (same_Some (between 3 r f s) e ran)))
   where
     none : (r : Registers) (e : Reader) → Read from4 load4 [] r r → e.registers ≡ r → Read from3 load3 [] r e.registers
     none r e t same = record { groups = record t.groups { mode = false }; registers = t.registers; bound = t.bound; scissor = t.scissor; spells = t.spells; loads = same ∙ t.loads }
@@ -234,7 +235,7 @@ accepted3 r f s (w ∷ ws) e ran end = elim (header_cases 3 r f s w ws e ran) as
 ]
 
 accepted2 : (r : Registers) (f s : ℕ) (words : List ℕ) (e : Reader) → run (Some (between 2 r f s)) words ≡ Some e → e.at ≡ 0 → Read from2 load2 words r e.registers
-accepted2 r f s [] e ran end = none r e (accepted3 r f s [] (between 3 r f s) refl refl) (ap (λ x. x.registers) (sym (some_same (between 2 r f s) e ran)))
+accepted2 r f s [] e ran end = none r e (accepted3 r f s [] (between 3 r f s) refl refl) (ap (λ x. x.registers) (sym (same_Some (between 2 r f s) e ran)))
   where
     none : (r : Registers) (e : Reader) → Read from3 load3 [] r r → e.registers ≡ r → Read from2 load2 [] r e.registers
     none r e t same = record { groups = record t.groups { blend = false }; registers = t.registers; bound = t.bound; scissor = t.scissor; spells = t.spells; loads = same ∙ t.loads }
@@ -257,7 +258,7 @@ accepted2 r f s (w ∷ ws) e ran end = elim (header_cases 2 r f s w ws e ran) as
 ]
 
 accepted1 : (r : Registers) (f s : ℕ) (words : List ℕ) (e : Reader) → run (Some (between 1 r f s)) words ≡ Some e → e.at ≡ 0 → Read from1 load1 words r e.registers
-accepted1 r f s [] e ran end = none r e (accepted2 r f s [] (between 2 r f s) refl refl) (ap (λ x. x.registers) (sym (some_same (between 1 r f s) e ran)))
+accepted1 r f s [] e ran end = none r e (accepted2 r f s [] (between 2 r f s) refl refl) (ap (λ x. x.registers) (sym (same_Some (between 1 r f s) e ran)))
   where
     none : (r : Registers) (e : Reader) → Read from2 load2 [] r r → e.registers ≡ r → Read from1 load1 [] r e.registers
     none r e t same = record { groups = record t.groups { depth = false }; registers = t.registers; bound = t.bound; scissor = t.scissor; spells = t.spells; loads = same ∙ t.loads }
@@ -286,7 +287,7 @@ accepted1 r f s (w ∷ ws) e ran end = elim (header_cases 1 r f s w ws e ran) as
 ]
 
 accepted0 : (r : Registers) (f s : ℕ) (words : List ℕ) (e : Reader) → run (Some (between 0 r f s)) words ≡ Some e → e.at ≡ 0 → Read from0 load0 words r e.registers
-accepted0 r f s [] e ran end = none r e (accepted1 r f s [] (between 1 r f s) refl refl) (ap (λ x. x.registers) (sym (some_same (between 0 r f s) e ran)))
+accepted0 r f s [] e ran end = none r e (accepted1 r f s [] (between 1 r f s) refl refl) (ap (λ x. x.registers) (sym (same_Some (between 0 r f s) e ran)))
   where
     none : (r : Registers) (e : Reader) → Read from1 load1 [] r r → e.registers ≡ r → Read from0 load0 [] r e.registers
     none r e t same = record { groups = record t.groups { shade = false }; registers = t.registers; bound = t.bound; scissor = t.scissor; spells = t.spells; loads = same ∙ t.loads }

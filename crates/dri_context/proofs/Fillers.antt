@@ -1,7 +1,7 @@
 -- Words that a reader has taken begin some register words, and where it takes no more they go wrong.
 use Rattle.std.proofs.Common.{◌≡◌, ℕ, zero, suc, ◌+◌, ◌/◌, ◌%◌, ◌<◌, ◌≤◌, List, [], ◌∷◌, ◌++◌, length, get_or, take, Some, None, Bool, true, false, ◌==◌, ◌&&◌, ◌||◌, if◌then◌else◌, refl, sym, ap, ◌∙◌, arith}
 use Rattle.std.proofs.lemmas.Bool.{cond-true}
-use Rattle.std.proofs.lemmas.Option.{slice_get-get_or}
+use Rattle.std.proofs.lemmas.Option.{slice_get-get_or, same_Some, none-some}
 use Rattle.dri_base.specs.declared.state.Registers.{Registers}
 use Rattle.dri_base.specs.declared.state.Shade.TheVariants as Shade_is
 use Rattle.dri_base.specs.declared.state.DepthFunc.TheVariants as Depth_is
@@ -11,7 +11,7 @@ use Rattle.dri_base.specs.declared.state.Wrap.TheVariants as Wrap_is
 use Rattle.dri_model.specs.Words.{Spelled}
 use Rattle.dri_model.specs.WordFaults.{Begins, IsWrongWord, IsCutShort}
 use Rattle.dri_context.specs.Reading.{Reader, IsReader, is_texture_side, size, depth_of, bound_of, scissor_of, after, run, opened}
-use Rattle.dri_context.proofs.Runs.{run-append, run_more, some_same, none_some}
+use Rattle.dri_context.proofs.Runs.{run-append, run_more}
 use Rattle.dri_context.proofs.Accepted.{between, accepted}
 use Rattle.dri_context.proofs.Complete.{complete}
 
@@ -120,7 +120,7 @@ wrong_word old words at r within ran is none = record {
   before = begun old (take at words) r ran is;
   wrong = λ b.
       let t = complete old (take (at + 1) words ++ b.0) b.1 in
-      none_some t.0 (sym (run-append (Some (opened old)) (take (at + 1) words) b.0 ∙ ap (λ o. run o b.0) (run_more (Some (opened old)) words at r within ran ∙ none) ∙ run_none b.0) ∙ t.1);
+      none-some t.0 (sym (run-append (Some (opened old)) (take (at + 1) words) b.0 ∙ ap (λ o. run o b.0) (run_more (Some (opened old)) words at r within ran ∙ none) ∙ run_none b.0) ∙ t.1);
 }
 
 pub cut_short : (old : Registers) (words : List ℕ) (r : Reader) → run (Some (opened old)) words ≡ Some r → IsReader r → (r.at ≡ 0 → ⊥) → IsCutShort Spelled words (length words) 0
@@ -128,5 +128,5 @@ cut_short old words r ran is inside = record {
   end = refl;
   zero = refl;
   before = begun old words r ran is;
-  short = λ spelled. let t = complete old words spelled in inside (ap (λ x. x.at) (some_same r t.0 (sym ran ∙ t.1)) ∙ t.2);
+  short = λ spelled. let t = complete old words spelled in inside (ap (λ x. x.at) (same_Some r t.0 (sym ran ∙ t.1)) ∙ t.2);
 }

@@ -13,10 +13,4 @@ pub record Context : Type 0 where
 -- a setting that a state can hold: a scissor's numbers are at most 2,048
 abbrev pub IsSettingInRange : Setting → Type 0
 IsSettingInRange (Setting_is.Scissor scissor) = IsScissorInRange scissor
-IsSettingInRange (Setting_is.Shade v) = Unit {0}
-IsSettingInRange (Setting_is.DepthFunc v) = Unit {0}
-IsSettingInRange (Setting_is.DepthWrite v) = Unit {0}
-IsSettingInRange (Setting_is.Blend v) = Unit {0}
-IsSettingInRange (Setting_is.TexMode v) = Unit {0}
-IsSettingInRange (Setting_is.Wrap v) = Unit {0}
-IsSettingInRange (Setting_is.Bind v) = Unit {0}
+IsSettingInRange setting = Unit {0}

@@ -5,7 +5,8 @@ ghost use Rattle.dri_model.specs.Words.{emitted_words, group_words, IsBoundInRan
 
 use crate::groups::Groups;
 use crate::values::{
-    blend_word, bound_words, depth_word, flag_word, mode_word, scissor_words, shade_word, wrap_word,
+    HEADER, MOST_WORDS, blend_word, bound_words, depth_word, flag_word, mode_word, scissor_words,
+    shade_word, wrap_word,
 };
 use dri_base::{BoundTexture, State};
 use std::marker::Model;
@@ -13,7 +14,7 @@ use std::marker::Model;
 /// Register words, at most 19. Contracts see the list of the words.
 #[derive(Drop)]
 pub struct EmitWords {
-    words: [u32; 19],
+    words: [u32; MOST_WORDS],
     len: usize,
 }
 
@@ -32,7 +33,7 @@ impl EmitWords {
         ensures { result ≡ [] }
     {
         EmitWords {
-            words: [0; 19],
+            words: [0; MOST_WORDS],
             len: 0,
         }
     }
@@ -63,7 +64,7 @@ impl EmitWords {
         if !named {
             return;
         }
-        self.push(0x5200_0000 + number);
+        self.push(HEADER + number);
         for value in values {
             self.push(*value);
         }

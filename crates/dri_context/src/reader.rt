@@ -4,6 +4,7 @@
 ghost use Rattle.std.specs.Prelude.{◌≡◌, ◌≤◌, ◌+◌, ◌*◌, IfSome};
 ghost use Rattle.dri_context.specs.Reading.{shade_of, depth_of, blend_of, mode_of, wrap_of, format_of, is_texture_side, fits_bound, fits_scissor, IsReader, bound_of, scissor_of, fits, size, with_group, header_read, word_taken, after, opened};
 
+use crate::values::{HALF, HEADER, LAST_EDGE, LAST_GROUP, LAST_SIDE};
 use dri_base::{
     Blend, BoundTexture, ClipRect, DepthFunc, Registers, Shade, TexFormat, TexMode, TexShape, Wrap,
 };
@@ -89,8 +90,8 @@ fn bound_of(format: u32, base: u32, sides: u32) -> Option<BoundTexture>
     }
     let shape = TexShape {
         format: format_of(format),
-        width: sides % 65_536,
-        height: sides / 65_536,
+        width: sides % HALF,
+        height: sides / HALF,
     };
     Some(BoundTexture { shape, base })
 }
@@ -102,10 +103,10 @@ fn scissor_of(flag: u32, upper: u32, lower: u32) -> Option<ClipRect>
         return None;
     }
     Some(ClipRect {
-        x1: (upper % 65_536) as u16,
-        y1: (upper / 65_536) as u16,
-        x2: (lower % 65_536) as u16,
-        y2: (lower / 65_536) as u16,
+        x1: (upper % HALF) as u16,
+        y1: (upper / HALF) as u16,
+        x2: (lower % HALF) as u16,
+        y2: (lower / HALF) as u16,
     })
 }
 
@@ -125,7 +126,7 @@ fn size(group: u32) -> u32
 fn is_texture_side(side: u32) -> bool
     ensures { result ≡ is_texture_side side }
 {
-    1 <= side && side <= 256
+    1 <= side && side <= LAST_SIDE
 }
 
 // Whether a word can stand behind the first word of a bound texture.
@@ -141,7 +142,7 @@ fn fits_bound(at: u32, first: u32, word: u32) -> bool
     if at == 2 {
         return true;
     }
-    is_texture_side(word % 65_536) && is_texture_side(word / 65_536)
+    is_texture_side(word % HALF) && is_texture_side(word / HALF)
 }
 
 // The same of a scissor.
@@ -154,7 +155,7 @@ fn fits_scissor(at: u32, first: u32, word: u32) -> bool
     if first == 0 {
         return word == 0;
     }
-    word % 65_536 <= 2048 && word / 65_536 <= 2048
+    word % HALF <= LAST_EDGE && word / HALF <= LAST_EDGE
 }
 
 // Whether a word can be the group's word at that place, behind its first word.
@@ -236,11 +237,11 @@ impl Reader {
         ensures reader { IfSome result IsReader }
         ensures count { IfSome result (λ r. 4 * self.group + self.at + 1 ≤ 4 * r.group + r.at) }
     {
-        if word < 0x5200_0000 + self.group || 0x5200_0006 < word {
+        if word < HEADER + self.group || HEADER + LAST_GROUP < word {
             return None;
         }
         Some(Reader {
-            group: word - 0x5200_0000,
+            group: word - HEADER,
             at: 1,
             ..self
         })

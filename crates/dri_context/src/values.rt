@@ -6,6 +6,24 @@ ghost use Rattle.dri_model.specs.Words.{format_word, halves, bound_words, scisso
 
 use dri_base::{Blend, BoundTexture, ClipRect, DepthFunc, Shade, TexFormat, TexMode, Wrap};
 
+/// The header of group 0. Each further group's header is one more.
+pub const HEADER: u32 = 0x5200_0000;
+
+/// The last group, the scissor's; the first is 0.
+pub const LAST_GROUP: u32 = 6;
+
+/// The most register words of a state: seven headers, and the words of each group.
+pub const MOST_WORDS: usize = 7 + (1 + 2 + 1 + 1 + 1 + 3 + 3);
+
+/// What a word of two numbers has of the upper one: it stands above sixteen bits.
+pub const HALF: u32 = 65_536;
+
+/// A texture's sides are 1 to this.
+pub const LAST_SIDE: u32 = 256;
+
+/// A scissor's numbers are 0 to this: twice the widest screen.
+pub const LAST_EDGE: u32 = 2048;
+
 pub fn shade_word(shade: Shade) -> u32
     ensures { result ≡ shade_word shade }
 {
@@ -80,7 +98,7 @@ fn halves(low: u32, high: u32) -> u32
     requires high { high ≤ 65535 }
     ensures { result ≡ halves low high }
 {
-    low + 65_536 * high
+    low + HALF * high
 }
 
 /// The words of a bound texture, whose sides are 1 to 256.

@@ -1,5 +1,5 @@
 -- How high ages and stamps can rise.
-use Rattle.std.proofs.Common.{◌≡◌, ◌<◌, ◌≤◌, ◌+◌, ◌*◌, ℕ, zero, suc, List, [], ◌∷◌, length, Bool, true, false, arith, refl, ap, ◌∙◌, inl, inr}
+use Rattle.std.proofs.Common.{◌≡◌, ◌<◌, ◌≤◌, ◌+◌, ◌*◌, ℕ, suc, List, [], ◌∷◌, length, Bool, true, false, arith, refl, ap, ◌∙◌, inl, inr}
 use Rattle.std.specs.Prelude.{◌==◌, ◌⊎◌, nat_le, pred, AllPairs}
 use Rattle.std.specs.List.{All, sum_by}
 use Rattle.std.proofs.lemmas.Bool.Decides.{nat_tests}
@@ -13,15 +13,15 @@ use Rattle.dri_base.specs.declared.scene.Scene.{Scene}
 use Rattle.dri_base.specs.Ranges.{InRange, ClientInRange, heap_bytes, client_numbers, command_count, IsWithin}
 use Rattle.dri_base.specs.Scenes.{script_in, commands_of}
 use Rattle.dri_base.proofs.RangeLemmas.{IsWellFormed, well_formed}
-use Rattle.dri_model.specs.Counting.{how_many}
 use Rattle.dri_model.specs.Stacks.{without_owner}
+use Rattle.dri_model.proofs.Counts.{how_many_all}
 use Rattle.dri_core.specs.Effects.{run_by, placed_by, taken_in, told, after_leave}
 use Rattle.dri_core.specs.EntryTable.{LegalEntry, after_entry}
 use Rattle.dri_core.specs.Measures.{one_if}
 use Rattle.dri_core.specs.Phases.{Phase, Out, Old, In, Over, Ask, Asking, Ended, Dead, is_done}
 use Rattle.dri_core.specs.Privates.{Private, is_ready}
 use Rattle.dri_core.specs.Restacks.{touched_by, next_stack}
-use Rattle.dri_core.specs.Runs.{after_entries, LegalEntries, after, HoldRun}
+use Rattle.dri_core.specs.Runs.{after_entries, LegalEntries, after, HoldRun, most_age, most_stamp}
 use Rattle.dri_core.specs.Worlds.{World, opening, put}
 use Rattle.dri_core.proofs.Endings.{has_command}
 use Rattle.dri_core.proofs.Lively.{Lively, lively_opened, lively_step}
@@ -37,10 +37,6 @@ is_dead _ = false
 
 abbrev pub deaths : Scene → World → ℕ
 deaths s w = sum_by (λ c. one_if (is_dead (w.client c).phase)) (client_numbers s.clients)
-
-pub how_many_most : (p : ℕ → Bool) (n : ℕ) → how_many p n ≤ n
-how_many_most p zero = omega arith
-how_many_most p (suc n) = grind (arith, how_many_most p n)
 
 -- the dead stay dead
 abbrev pub StaysDead : World → ℕ → Private → Type 0
@@ -90,8 +86,8 @@ abbrev pub IsCounterBounded : Scene → World → Type 0
 IsCounterBounded s w = w.counter ≤ 1 + 65 * (w.made + deaths s w)
 
 pub counter_step : (s : Scene) (w : World) (e : Entry) → Lively s w → LegalEntry s w e → IsCounterBounded s w → IsCounterBounded s (after_entry s w e)
-counter_step s w (Change i) lively legal old = omega (arith, old, how_many_most (touched_by s w (next_stack s w)) 65)
-counter_step s w (Gone c) lively legal old = omega (arith, old, how_many_most (touched_by s w (without_owner c w.stack)) 65, one_more_death s w c lively legal)
+counter_step s w (Change i) lively legal old = omega (arith, old, how_many_all (touched_by s w (next_stack s w)) 65)
+counter_step s w (Gone c) lively legal old = omega (arith, old, how_many_all (touched_by s w (without_owner c w.stack)) 65, one_more_death s w c lively legal)
 counter_step s w (Light c) lively legal old = omega (arith, old, deaths_stay s w (Light c) legal)
 counter_step s w (Kernel c found) lively legal old = omega (arith, old, deaths_stay s w (Kernel c found) legal)
 counter_step s w (Stale c) lively legal old = omega (arith, old, deaths_stay s w (Stale c) legal)
@@ -237,9 +233,9 @@ few_clients s good =
     let all = numbers_within (ClientInRange s.windows (heap_bytes s)) s.clients good.scripted.each (λ p c. c.numbered) in
     omega (arith, length-map s.clients (λ p. p.number), rising_length (client_numbers s.clients) 0 32 all.0 all.1 good.scripted.rising (omega arith))
 
--- the bounds as numbers
-pub age_most_of_all : (s : Scene) (journal : List Entry) → InRange s → HoldRun s journal → (after s journal).heap.global ≤ 300000
+-- the bounds that no journal passes
+pub age_most_of_all : (s : Scene) (journal : List Entry) → InRange s → HoldRun s journal → (after s journal).heap.global ≤ most_age
 age_most_of_all s journal good run = omega (arith, age_bounded s journal good run, good.few)
 
-pub stamp_most : (s : Scene) (journal : List Entry) → InRange s → HoldRun s journal → (after s journal).counter ≤ 268321
+pub stamp_most : (s : Scene) (journal : List Entry) → InRange s → HoldRun s journal → (after s journal).counter ≤ most_stamp
 stamp_most s journal good run = omega (arith, counter_bounded s journal good run, good.changed.few, few_clients s good)

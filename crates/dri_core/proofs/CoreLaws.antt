@@ -25,7 +25,8 @@ with_append : (o : Option Entry) (xs ys : List Entry) → with_entry o (xs ++ ys
 with_append None xs ys = refl
 with_append (Some e) xs ys = refl
 
-journal-append : (past rest : List Event) → journal_of (past ++ rest) ≡ journal_of past ++ journal_of rest
+-- the journal of events after events
+pub journal-append : (past rest : List Event) → journal_of (past ++ rest) ≡ journal_of past ++ journal_of rest
 journal-append [] rest = refl
 journal-append (e ∷ es) rest = ap (with_entry (entry_of e)) (journal-append es rest) ∙ with_append (entry_of e) (journal_of es) (journal_of rest)
 

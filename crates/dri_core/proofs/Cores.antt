@@ -16,7 +16,7 @@ use Rattle.dri_core.specs.Effects.{run_by}
 use Rattle.dri_core.specs.Runs.{after, HoldRun, LegalEntries, after_entries}
 use Rattle.dri_core.specs.Cores.{Core, entry_of, with_entry, journal_of, opening_core}
 use Rattle.dri_core.specs.EventTable.{LegalEvent, after_event, world_after}
-use Rattle.dri_core.specs.CoreRuns.{after_events, LegalEvents, IsRun, WordIsCurrent}
+use Rattle.dri_core.specs.CoreRuns.{after_events, LegalEvents, IsRun, WordHasImages, WordIsClean, WordIsCurrent}
 use Rattle.std.proofs.lemmas.Bool.{true≢false}
 use Rattle.dri_core.proofs.Parts.{put_keeps}
 use Rattle.dri_core.proofs.Laws.{light_is_current}
@@ -132,3 +132,13 @@ word_is_current s k sound tied c free mine out = light_is_current s k.world soun
     left_by : (k.word.context ≡ 0) ⊎ (k.word.context ≡ k.world.left) → k.world.left ≡ c + 1
     left_by (inl none) = absurd (omega (arith, none, mine))
     left_by (inr left) = sym left ∙ mine
+
+-- its clean groups are in the card
+pub word_is_clean : (s : Scene) (k : Core) → Sound s k.world → Tied s k → WordIsClean s k
+word_is_clean s k sound tied c free mine out = sound.main.clean c (word_is_current s k sound tied c free mine out).owner
+
+-- and so are the images of its placed textures, since it knows all ages
+pub word_has_images : (s : Scene) (k : Core) → Sound s k.world → Tied s k → WordHasImages s k
+word_has_images s k sound tied c free mine out t run placed =
+    let known = (word_is_current s k sound tied c free mine out).local in
+    (sound.textures.held c t run (placed, λ r inside. omega (arith, known, sound.textures.ages r))).image

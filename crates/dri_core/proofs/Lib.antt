@@ -40,5 +40,7 @@ pub mod RoundsEnd
 -- How high counts rise
 pub mod AgeBounds
 pub mod Bounds
+-- The windows stay on the stack
+pub mod Windows
 -- The laws as the public functions state them
 pub mod RunLaws

@@ -5,7 +5,7 @@ use Rattle.dri_base.proofs.RangeLemmas.{well_formed}
 use Rattle.dri_base.specs.declared.journal.Entry.{Entry}
 use Rattle.dri_base.specs.declared.journal.Event.{Event}
 use Rattle.dri_base.specs.declared.scene.Scene.{Scene}
-use Rattle.dri_core.specs.CoreRuns.{IsRun, after_events, ConfinedRun, OwnRun, SoloLeftRun, WordIsCurrent}
+use Rattle.dri_core.specs.CoreRuns.{IsRun, after_events, ConfinedRun, OwnRun, SoloLeftRun, WordHasImages, WordIsClean, WordIsCurrent}
 use Rattle.dri_core.specs.Cores.{journal_of, opening_core}
 use Rattle.dri_core.specs.Frames.{Own, SoloLeft, StampTells}
 use Rattle.dri_core.specs.Measures.{TurnsLeaveLess, ComesToAnEnd}
@@ -13,7 +13,7 @@ use Rattle.dri_core.specs.Runs.{after, HoldRun, Confined, LightIsCurrent, Acting
 use Rattle.dri_core.specs.TurnLaws.{OneEvent, TurnsAreLegal, NoLightAfterMark, OneKill, KillsAreLegal, IsScheduled, IsPlayed}
 use Rattle.dri_core.specs.Turns.{all_pass, played, round, turns_and_rounds, IsTurns}
 use Rattle.dri_core.proofs.CoreLaws.{confined_core, own_core, solo_left_core}
-use Rattle.dri_core.proofs.Cores.{journal_is_hold_run, word_is_current}
+use Rattle.dri_core.proofs.Cores.{journal_is_hold_run, word_has_images, word_is_clean, word_is_current}
 use Rattle.dri_core.proofs.Draws.{own_run}
 use Rattle.dri_core.proofs.Endings as Endings
 use Rattle.dri_core.proofs.Laws.{confined_run, light_is_current, acting_is_current}
@@ -67,6 +67,12 @@ module _ (s : Scene) (events : List Event) (good : InRange s) (run : IsRun s eve
   -- who may take the word lightly is current
   pub word_current : WordIsCurrent s (after_events s (opening_core s) events)
   word_current = let known = known_after s events (well_formed s good) run in word_is_current s (after_events s (opening_core s) events) known.sound known.tied
+
+  pub word_clean : WordIsClean s (after_events s (opening_core s) events)
+  word_clean = let known = known_after s events (well_formed s good) run in word_is_clean s (after_events s (opening_core s) events) known.sound known.tied
+
+  pub word_images : WordHasImages s (after_events s (opening_core s) events)
+  word_images = let known = known_after s events (well_formed s good) run in word_has_images s (after_events s (opening_core s) events) known.sound known.tied
 
   pub confined_events : ConfinedRun s events
   confined_events = confined_core s events (well_formed s good) run

@@ -8,8 +8,12 @@ use Rattle.dri_core.specs.Cores.{Core, entry_of, opening_core}
 use Rattle.dri_core.specs.EventTable.{LegalEvent, after_event}
 use Rattle.dri_core.specs.Frames.{OwnAt, Shows, keeps}
 use Rattle.dri_core.specs.Phases.{Out}
-use Rattle.dri_core.specs.Runs.{IsCurrent, SameOutside}
-use Rattle.dri_base.specs.Scenes.{command_at, commands_of, window_of}
+use Rattle.dri_core.specs.Privates.{own_registers}
+use Rattle.dri_core.specs.Runs.{HasBytes, IsClean, IsCurrent, SameOutside}
+use Rattle.dri_base.specs.Scenes.{bytes_of, command_at, commands_of, textures_of, window_of}
+use Rattle.dri_base.specs.Texels.{texture_in}
+use Rattle.dri_model.specs.Heaps.{base_of}
+use Rattle.dri_model.specs.Heaps as Heaps
 use Rattle.dri_core.specs.Solo.{frame, is_swap}
 use Rattle.dri_core.specs.Worlds.{World, clips_in}
 
@@ -34,6 +38,19 @@ world_of s events = (after_events s (opening_core s) events).world
 -- where the word is unheld and is client c's context and c is out, c is current, so its light lock needs no check
 abbrev pub WordIsCurrent : Scene → Core → Type 0
 WordIsCurrent s k = (c : ℕ) → k.word.held ≡ false → k.word.context ≡ c + 1 → (k.world.client c).phase ≡ Out → IsCurrent s k.world c
+
+-- then each group of c that isn't dirty is in the card as c would emit it now
+abbrev pub WordIsClean : Scene → Core → Type 0
+WordIsClean s k =
+    (c : ℕ) → k.word.held ≡ false → k.word.context ≡ c + 1 → (k.world.client c).phase ≡ Out →
+    IsClean (k.world.client c).dirty (own_registers s c (k.world.client c)) k.world.registers
+
+-- and each texture that c has placed has its image in the card's memory
+abbrev pub WordHasImages : Scene → Core → Type 0
+WordHasImages s k =
+    (c : ℕ) → k.word.held ≡ false → k.word.context ≡ c + 1 → (k.world.client c).phase ≡ Out →
+    (t : ℕ) (run : Heaps.Run) → (k.world.client c).placed t ≡ Some run →
+    HasBytes k.world.memory (base_of s.region_size run) (bytes_of (texture_in (textures_of s c) t))
 
 -- no command changes a pixel outside its client's clips of that moment
 abbrev pub ConfinedRun : Scene → List Event → Type 0

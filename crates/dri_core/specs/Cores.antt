@@ -70,8 +70,8 @@ IsFirst a [] = ⊥
 IsFirst a (b ∷ bs) = b ≡ a
 
 -- the client isn't dying
-abbrev pub IsLive : Core → ℕ → Type 0
-IsLive k c = k.dying c ≡ false
+abbrev pub IsNotDying : Core → ℕ → Type 0
+IsNotDying k c = k.dying c ≡ false
 
 -- the actor is in the queue
 abbrev pub is_queued : ℕ → List ℕ → Bool

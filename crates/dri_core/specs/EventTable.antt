@@ -5,7 +5,7 @@ use Rattle.dri_base.specs.declared.journal.Entry.{Entry}
 use Rattle.dri_base.specs.declared.journal.Event.{Event}
 use Rattle.dri_base.specs.declared.journal.Event.TheVariants.{Change, Emit, Gone, Info, Kernel, LeaveKernel, LeaveLight, Light, Mark, Place, Queue, Run, Stale, Stop}
 use Rattle.dri_base.specs.declared.scene.Scene.{Scene}
-use Rattle.dri_core.specs.Cores.{Core, IsFirst, IsNext, can_take, Wants, Word, entry_of, is_queued, IsLive}
+use Rattle.dri_core.specs.Cores.{Core, IsFirst, IsNext, can_take, Wants, Word, entry_of, is_queued, IsNotDying}
 use Rattle.dri_core.specs.EntryTable.{LegalEntry, after_entry}
 use Rattle.dri_core.specs.Phases.{Ask, Asking, In, Out, Over, is_done, is_holding}
 use Rattle.dri_base.specs.Scenes.{command_at, is_named}
@@ -14,9 +14,9 @@ use Rattle.dri_base.specs.declared.journal.Entry.TheVariants as Entry_is
 
 -- where an event is legal
 abbrev pub LegalEvent : Scene → Core → Event → Type 0
-LegalEvent s k (Light c) = IsLive k c × ((k.world.client c).phase ≡ Out) × (k.word.held ≡ false) × (k.word.context ≡ c + 1)
+LegalEvent s k (Light c) = IsNotDying k c × ((k.world.client c).phase ≡ Out) × (k.word.held ≡ false) × (k.word.context ≡ c + 1)
 LegalEvent s k (Kernel c found) =
-    IsLive k c × ((k.world.client c).phase ≡ Out) × (k.word.held ≡ false) × (k.word.context ≡ found) × (found ≢ c + 1) × IsNext c k.queue
+    IsNotDying k c × ((k.world.client c).phase ≡ Out) × (k.word.held ≡ false) × (k.word.context ≡ found) × (found ≢ c + 1) × IsNext c k.queue
 LegalEvent s k (Queue a) =
     Wants s k a × (is_queued a k.queue ≡ false) × (can_take k a ≡ false)
 LegalEvent s k (Mark a) = IsFirst a k.queue × (k.word.held ≡ true) × (k.word.contended ≡ false)
@@ -26,10 +26,10 @@ LegalEvent s k (Place c t first count) = LegalEntry s k.world (Entry_is.Place c 
 LegalEvent s k (Run c i) = LegalEntry s k.world (Entry_is.Run c i)
 LegalEvent s k (LeaveLight c) = (((k.world.client c).phase ≡ Over) ⊎ ((k.world.client c).phase ≡ Ask)) × (k.word.contended ≡ false)
 LegalEvent s k (LeaveKernel c) = (((k.world.client c).phase ≡ Over) ⊎ ((k.world.client c).phase ≡ Ask)) × (k.word.contended ≡ true)
-LegalEvent s k (Info c) = IsLive k c × ((k.world.client c).phase ≡ Asking) × (k.word.held ≡ false) × IsNext c k.queue
+LegalEvent s k (Info c) = IsNotDying k c × ((k.world.client c).phase ≡ Asking) × (k.word.held ≡ false) × IsNext c k.queue
 LegalEvent s k (Change i) = (k.word.held ≡ false) × (i ≡ k.world.made + 1) × (i ≤ length s.changes) × IsNext 0 k.queue
 LegalEvent s k (Stop c) =
-    (is_named s c ≡ true) × IsLive k c × (is_holding (k.world.client c).phase ≡ false) × (is_done (k.world.client c).phase ≡ false)
+    (is_named s c ≡ true) × IsNotDying k c × (is_holding (k.world.client c).phase ≡ false) × (is_done (k.world.client c).phase ≡ false)
 LegalEvent s k (Gone c) =
     ((is_holding (k.world.client c).phase ≡ true) × ((is_named s c ≡ true) ⊎ (((k.world.client c).phase ≡ In) × (command_at s c (k.world.client c).place ≡ Some Die)))) ⊎
     ((k.dying c ≡ true) × (k.word.held ≡ false) × IsNext c k.queue)

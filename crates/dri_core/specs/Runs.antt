@@ -1,5 +1,6 @@
 -- Hold-runs, and what is said of them.
-use Rattle.std.specs.Prelude.{drop, Bool, List, None, Some, [], false, get_or, length, true, ℕ, ◌++◌, ◌+◌, ◌<◌, ◌∷◌, ◌≡◌, ◌≤◌, ◌⊎◌}
+use Rattle.std.specs.Prelude.{drop, Bool, List, None, Some, [], false, get_or, length, true, ℕ, ◌++◌, ◌+◌, ◌*◌, ◌<◌, ◌∷◌, ◌≡◌, ◌≤◌, ◌⊎◌}
+use Rattle.dri_base.specs.Limits.{most_changes, most_commands}
 use Rattle.dri_base.specs.Texels.{texture_in}
 use Rattle.dri_base.specs.declared.journal.Entry.{Entry}
 use Rattle.dri_base.specs.declared.journal.Entry.TheVariants.{Run}
@@ -129,6 +130,15 @@ client_of (Entry_is.Gone c) = c
 -- the context that an entry belongs to: 1 is the server's, client c's is c + 1
 abbrev pub context_of : Entry → ℕ
 context_of e = client_of e + 1
+
+-- the greatest age that a hold-run reaches: each command raises the age by at most three
+abbrev pub most_age : ℕ
+most_age = 3 * most_commands
+
+-- the greatest stamp that a hold-run reaches: the first is 1, and each change, and each death of one of 32 clients, gives at
+-- most 65 more
+abbrev pub most_stamp : ℕ
+most_stamp = 1 + 65 * (most_changes + 32)
 
 -- the entries of a journal after those that were seen
 abbrev pub since : List Entry → List Entry → List Entry

@@ -4,7 +4,7 @@ ghost use Rattle.std.specs.Prelude.{◌≡◌, ℕ, List, true};
 ghost use Rattle.dri_base.specs.declared.command.Item.{Item};
 ghost use Rattle.dri_base.specs.declared.journal.Event.{Event};
 ghost use Rattle.dri_base.specs.declared.scene.Scene.{Scene};
-ghost use Rattle.dri_core.specs.CoreRuns.{IsRun, after_events, world_of, ConfinedRun, OwnRun, SoloLeftRun, WordIsCurrent};
+ghost use Rattle.dri_core.specs.CoreRuns.{IsRun, after_events, world_of, ConfinedRun, OwnRun, SoloLeftRun, WordHasImages, WordIsClean, WordIsCurrent};
 ghost use Rattle.dri_core.specs.Cores.{journal_of, opening_core};
 ghost use Rattle.dri_core.specs.Measures.{TurnsLeaveLess, ComesToAnEnd};
 ghost use Rattle.dri_core.specs.Runs.{after, HoldRun, Whole};
@@ -13,12 +13,15 @@ ghost use Rattle.dri_core.specs.TurnLaws.{OneEvent, TurnsAreLegal, NoLightAfterM
 ghost use Rattle.dri_core.specs.Turns.{all_pass, played, round, turns_and_rounds, IsTurns};
 
 /// The journal of a run is a hold-run that leaves the run's world, so taking the marks, the queue and the stops away
-/// changes nothing else. Where the word is unheld and is a client's context and the client is out, it is current. The
-/// run is confined, own and solo left.
+/// changes nothing else. Where the word is unheld and is a client's context and the client is out, it is current, the
+/// card's registers are those that its state spells, but for its dirty groups, and the card's bytes of its placed textures
+/// are their images. The run is confined, own and solo left.
 pub fn core()
     ensures journal { (s : Scene) (events : List Event) → InRange s → IsRun s events → HoldRun s (journal_of events) }
     ensures world { (s : Scene) (events : List Event) → after s (journal_of events) ≡ world_of s events }
     ensures current { (s : Scene) (events : List Event) → InRange s → IsRun s events → WordIsCurrent s (after_events s (opening_core s) events) }
+    ensures clean { (s : Scene) (events : List Event) → InRange s → IsRun s events → WordIsClean s (after_events s (opening_core s) events) }
+    ensures images { (s : Scene) (events : List Event) → InRange s → IsRun s events → WordHasImages s (after_events s (opening_core s) events) }
     ensures confined { (s : Scene) (events : List Event) → InRange s → IsRun s events → ConfinedRun s events }
     ensures own { (s : Scene) (events : List Event) → InRange s → IsRun s events → OwnRun s events }
     ensures solo { (s : Scene) (events : List Event) → InRange s → IsRun s events → SoloLeftRun s events }

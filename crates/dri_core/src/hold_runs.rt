@@ -8,7 +8,7 @@ ghost use Rattle.dri_base.specs.declared.scene.Scene.{Scene};
 ghost use Rattle.dri_core.specs.Decide.{is_hold_run};
 ghost use Rattle.dri_core.specs.FirstBad.{IsFirstBad};
 ghost use Rattle.dri_core.specs.Frames.{Own, SoloLeft, StampTells};
-ghost use Rattle.dri_core.specs.Runs.{after, HoldRun, Confined, LightIsCurrent, ActingIsCurrent, OwnerIsClean, Intact, BeginsWith, since, client_of};
+ghost use Rattle.dri_core.specs.Runs.{after, HoldRun, Confined, LightIsCurrent, ActingIsCurrent, OwnerIsClean, Intact, BeginsWith, since, client_of, most_age, most_stamp};
 ghost use Rattle.dri_base.specs.Ranges.{InRange, client_numbers};
 ghost use Rattle.dri_base.specs.Scenes.{commands_of};
 ghost use Rattle.dri_core.specs.Solo.{frame, IsFrame};
@@ -82,8 +82,8 @@ pub fn frames()
 /// How high counts can rise over a hold-run: the global age to 300,000, the stamps to 268,321, a client's place to one
 /// behind its last command, and the number of changes made to that of all changes.
 pub fn bounded()
-    ensures age { (s : Scene) (journal : List Entry) → InRange s → HoldRun s journal → (after s journal).heap.global ≤ 300000 }
-    ensures stamps { (s : Scene) (journal : List Entry) → InRange s → HoldRun s journal → (after s journal).counter ≤ 268321 }
+    ensures age { (s : Scene) (journal : List Entry) → InRange s → HoldRun s journal → (after s journal).heap.global ≤ most_age }
+    ensures stamps { (s : Scene) (journal : List Entry) → InRange s → HoldRun s journal → (after s journal).counter ≤ most_stamp }
     ensures places { (s : Scene) (journal : List Entry) → InRange s → HoldRun s journal → (c : ℕ) → ((after s journal).client c).place ≤ length (commands_of s c) + 1 }
     ensures made { (s : Scene) (journal : List Entry) → InRange s → HoldRun s journal → (after s journal).made ≤ length s.changes }
 {}

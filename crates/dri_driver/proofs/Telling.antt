@@ -1,11 +1,9 @@
 -- A client beside the events that others make for it, and beside those of others.
-use Rattle.std.proofs.Common.{◌≡◌, ◌∙◌, List, [], ap, sym}
+use Rattle.std.proofs.Common.{◌≡◌, ◌∙◌, ap, sym}
 use Rattle.dri_base.specs.declared.journal.Entry.{Entry}
 use Rattle.dri_base.specs.declared.journal.Entry.TheVariants.{Gone, Info}
-use Rattle.dri_base.specs.Scenes.{commands_of}
 use Rattle.dri_core.specs.Effects.{told}
-use Rattle.dri_core.specs.Privates.{Private, opening_part}
-use Rattle.dri_core.specs.Runs.{after}
+use Rattle.dri_core.specs.Privates.{Private}
 use Rattle.dri_core.specs.Worlds.{World, clips_in}
 use Rattle.dri_core.proofs.Parts.{put_here}
 use Rattle.dri_client.specs.Parts.{Agrees, part_after}
@@ -16,13 +14,6 @@ use Rattle.dri_driver.specs.Clients.{ClientState, copy_of, kept_of, part_of}
 use Rattle.dri_driver.specs.Fits.{Fits}
 use Rattle.dri_driver.proofs.Copied.{copy_is}
 use Rattle.dri_driver.proofs.Fitting.{whole, world_added}
-
--- a client fits a value without entries as it stands at the opening
-pub opened_fits : (k : ClientState) (v : SharedState) → k.scene ≡ v.scene → v.journal ≡ [] → part_of k ≡ opening_part (commands_of v.scene k.number) → Fits k v
-opened_fits k v scene journal part = record {
-  scene = scene;
-  part = part ∙ ap (λ (j : List Entry). (after v.scene j).client k.number) (sym journal);
-}
 
 -- a client fits what an entry leaves, where its part is what the table says
 fits_after : (k l : ClientState) (v u : SharedState) (e : Entry) → Fits k v → Added v u e → l.scene ≡ k.scene → l.number ≡ k.number → part_of l ≡ part_after v.scene (world_of v) e k.number → Fits l u

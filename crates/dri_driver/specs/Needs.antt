@@ -1,8 +1,8 @@
 -- How many entries a client can add in a hold.
 use Rattle.std.specs.Prelude.{List, [], drop, if◌then◌else◌, pred, suc, ℕ, ◌*◌, ◌+◌, ◌∷◌}
 use Rattle.dri_base.specs.declared.command.Command.{Command}
-use Rattle.dri_base.specs.declared.command.Command.TheVariants.{Clear, Die, Set, Swap, Triangle, Yield}
-use Rattle.dri_core.specs.Phases.{Phase, Out, Old, In, Over, Ask, Asking, Ended, Dead}
+use Rattle.dri_base.specs.declared.command.Command.TheVariants.{Swap, Yield}
+use Rattle.dri_core.specs.Phases.{Phase, Old, In, Over, Ask}
 use Rattle.dri_core.specs.Privates.{Private, is_ready}
 use Rattle.dri_model.specs.Groups.{is_empty}
 use Rattle.dri_driver.specs.Clients.{ClientState, part_of, script_of_client}
@@ -12,10 +12,7 @@ abbrev pub count_ahead : List Command → ℕ
 count_ahead [] = 0
 count_ahead (Swap ∷ commands) = 1
 count_ahead (Yield ∷ commands) = 1
-count_ahead (Set setting ∷ commands) = suc (count_ahead commands)
-count_ahead (Clear colour depth ∷ commands) = suc (count_ahead commands)
-count_ahead (Triangle t ∷ commands) = suc (count_ahead commands)
-count_ahead (Die ∷ commands) = suc (count_ahead commands)
+count_ahead (command ∷ commands) = suc (count_ahead commands)
 
 -- how many commands the client may run before it has to leave
 abbrev pub commands_ahead : ClientState → ℕ
@@ -35,10 +32,7 @@ left_in In ahead next = next + (3 * pred ahead + 1)
 left_in Over ahead next = 1
 left_in Ask ahead next = 1
 left_in Old ahead next = 2
-left_in Out ahead next = 0
-left_in Asking ahead next = 0
-left_in Ended ahead next = 0
-left_in Dead ahead next = 0
+left_in phase ahead next = 0
 
 -- the most entries that the client can still add in its hold
 abbrev pub entries_left : ClientState → ℕ

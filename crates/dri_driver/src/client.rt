@@ -33,6 +33,13 @@ use std::marker::{Brand, Model};
 use std::sync::Arc;
 use std::sync::ledger::{Blank, Ledger};
 
+// The most entries that a command brings: a triangle's place, emit and run.
+const ENTRIES_EACH: u32 = 3;
+
+// What a hold may add beside its commands: it comes in, may say that its stamp is old, and goes out. The rule leaves room for one
+// entry more.
+const ENTRIES_MORE: u32 = 4;
+
 /// What one client keeps. Contracts see its scene and its number, whether it is dying, and its private part.
 #[derive(Drop)]
 pub struct Client {
@@ -116,7 +123,7 @@ impl Client {
             .commands
             .as_slice()
             .split_at(self.part.place() as usize - 1);
-        3 * commands_ahead(ahead) + 4
+        ENTRIES_EACH * commands_ahead(ahead) + ENTRIES_MORE
     }
 
     /// It takes in what it is told of its window, whose clips are pixels of the screen, and is out again. Told what a

@@ -19,7 +19,8 @@ pub fn clients_of(alloc: Global, scene: &Arc<Scene, Global>) -> Result<Vec<Clien
     let mut clients = Vec::with_capacity(alloc, scene.clients.len())?;
     for i in 0..scene.clients.len() {
         let number = scene.clients.get(i).number;
-        clients.push(Client::new(alloc, scene.clone()?, number)?)?;
+        let client = Client::new(alloc, scene.clone()?, number)?;
+        clients.push_reserved(client);
     }
     Ok(clients)
 }

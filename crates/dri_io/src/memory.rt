@@ -13,7 +13,7 @@ use std::marker::Model;
 /// Numbers of calls, counted from 1.
 pub type CallList = Sequence<u64>;
 
-/// Gives a front of what is left behind a place, a piece at most.
+/// Gives a prefix of what is left behind a place, a piece at most.
 fn give(bytes: &Bytes, at: usize, piece: usize, into: &mut [u8]) -> usize
     requires { at ≤ length bytes.now }
     ensures count { result ≡ min piece (min (length into.old) (length bytes.now - at)) }

@@ -48,10 +48,10 @@ pub fn read_all<S: Source>(alloc: Global, source: &mut S, limit: usize) -> Resul
 }
 
 /// Writes all the bytes, in order. At an `Err`, which comes only where the sink's count of faults rose in this call, a
-/// front of them was taken. It is `Ok` for a sink that takes so many bytes without a fault.
+/// prefix of them was taken. It is `Ok` for a sink that takes so many bytes without a fault.
 pub fn write_all<N: Sink>(sink: &mut N, bytes: &[u8]) -> Result<(), WriteFault>
     ensures ok { OnOk result (Appends (N.held sink.old) (N.held sink.new) bytes.now) }
-    ensures front { OnErr result ((taken : ℕ) × (taken ≤ length bytes.now)
+    ensures prefix { OnErr result ((taken : ℕ) × (taken ≤ length bytes.now)
         × Appends (N.held sink.old) (N.held sink.new) (take taken bytes.now)) }
     ensures later { N.faults sink.old ≤ N.faults sink.new }
     ensures fault { OnErr result (Rose (N.faults sink.old) (N.faults sink.new)) }

@@ -1,7 +1,7 @@
 -- Where nobody stands twice, 33 actors fill the queue.
 use Rattle.std.proofs.Common.{◌≡◌, ◌≢◌, ◌<◌, ◌≤◌, ℕ, ◌+◌, List, [], ◌∷◌, ◌++◌, length, subst, arith}
 use Rattle.std.specs.Prelude.{◌==◌, not}
-use Rattle.std.specs.List.{Contains}
+use Rattle.std.specs.List.{Contains, filter}
 use Rattle.std.proofs.lemmas.Bool.{eqb-true}
 use Rattle.std.proofs.lemmas.Bool.Decides.{Decides-eqb}
 use Rattle.std.proofs.lemmas.List.{length-append}
@@ -11,7 +11,7 @@ use Rattle.std.proofs.lemmas.List.Quantifiers.{all_pairs_push}
 use Rattle.std.proofs.lemmas.Map.Made.{IsDistinct-from_AllPairs}
 use Rattle.std.proofs.lemmas.Map.Steps.{length-le_from_distinct_below}
 use Rattle.std.proofs.lemmas.Map.Views.{Contains-from_any}
-use Rattle.dri_kernel.specs.Waiting.{IsActor, IsQueue, leaves}
+use Rattle.dri_kernel.specs.Waiting.{IsActor, IsQueue}
 
 -- there are no more than there are actors
 pub no_more : (queue : List ℕ) → IsQueue queue → length queue ≤ 33
@@ -33,7 +33,7 @@ room queue a good actor absent =
     omega (arith, full, longer)
 
 -- one may leave
-pub left : (queue : List ℕ) (a : ℕ) → IsQueue queue → IsQueue (leaves a queue)
+pub left : (queue : List ℕ) (a : ℕ) → IsQueue queue → IsQueue (filter (λ b. not (b == a)) queue)
 left queue a good = record {
   actors = All-filter (λ b. not (b == a)) IsActor queue good.actors;
   once = AllPairs-filter ◌≢◌ (λ b. not (b == a)) queue good.once;

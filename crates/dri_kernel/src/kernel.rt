@@ -5,10 +5,12 @@ ghost use Rattle.std.specs.Prelude.{◌≡◌, ◌≢◌, ◌⊎◌, ◌≤◌};
 ghost use Rattle.dri_hwlock.specs.Words.{IsFree};
 ghost use Rattle.dri_hwlock.specs.Tokens.{id_of, pass_token, left_lightly, late_token, hold_token, value_in, name_of, found_word, IsHoldOf, KeepsBase, AddsOwn, left_token};
 ghost use Rattle.dri_kernel.specs.Calls.{IsTakenAfter, IsUnlocked, IsReleased};
+ghost use Rattle.dri_kernel.specs.Waiters.{FindsOther, name_wanted, waiting_token};
 ghost use Rattle.dri_kernel.specs.Waiting.{IsActor};
 
-use crate::queue::Queue;
-use dri_hwlock::{Guarded, Hold, HwLock, Late, Left, Marked, Pass};
+use crate::queue::{ACTORS, Queue};
+use crate::waiter::Waiter;
+use dri_hwlock::{Guarded, Hold, HwLock, Late, Left, Pass};
 use std::array;
 use std::hint::spin_loop;
 use std::sync::{Condvar, Mutex, Wait};
@@ -16,9 +18,6 @@ use std::sync::{Condvar, Mutex, Wait};
 // How often the queue's front tries to take a held lock before it marks the word and sleeps. A hold
 // that ends meanwhile may still leave lightly.
 const TRIES: u32 = 1024;
-
-// The actors: the server and 32 clients.
-const ACTORS: usize = 33;
 
 // How often the front has tried.
 #[derive(Drop)]
@@ -54,8 +53,9 @@ impl Kernel {
     }
 
     /// Takes the lock in its turn, as actor 0 to 32, after a light exchange that failed. It may wait,
-    /// and never refuses. No other thread waits as this actor meanwhile, since nobody would wake it.
-    /// The hold is one that `HwLock::take` could have given.
+    /// and never refuses. No two threads wait as one actor at a time: the first that is served takes
+    /// the actor out of the queue, and nobody would wake the other. The hold is one that
+    /// `HwLock::take` could have given.
     pub fn lock<G: Guarded>(
         &self,
         rt: &impl Wait,
@@ -71,35 +71,13 @@ impl Kernel {
         ensures found { (found_word result ≡ 0) ⊎ (found_word result ≡ G.closer_of (value_in result)) }
         ensures other { found_word result ≢ (late_token late).context }
     {
-        let mut late = late;
-        let mut queue = self.queue.lock(rt);
-        if !queue.contains(actor) {
-            queue.join(actor);
-        }
-        let mut tries = Tries(0);
-        for _ in rt.forever() {
-            let mut sleeps = true;
-            if queue.front() == Some(actor) {
-                late = match hw.take(late) {
-                    Ok(hold) => {
-                        queue.remove(actor);
-                        self.wake_front(&queue);
-                        return hold;
-                    }
-                    Err(refused) => refused.into_token(),
-                };
-                sleeps = tries.are_over() && matches!(hw.mark(&mut late), Marked::Contended { .. });
-            }
-            if sleeps {
-                queue = self.sleepers[actor as usize].wait(rt, queue);
-            }
-        }
-        unreachable!()
+        self.take_in_turn(rt, hw, actor, Waiter::Client(late))
     }
 
     /// Takes the lock in its turn, as actor 0 to 32, in the name of context 1. Any pass may do so. It
-    /// may wait, and never refuses. No other thread waits as this actor meanwhile, since nobody would
-    /// wake it. The hold is one that `HwLock::take_as_server` could have given.
+    /// may wait, and never refuses. No two threads wait as one actor at a time: the first that is
+    /// served takes the actor out of the queue, and nobody would wake the other. The hold is one that
+    /// `HwLock::take_as_server` could have given.
     pub fn lock_as_server<G: Guarded>(
         &self,
         rt: &impl Wait,
@@ -114,7 +92,27 @@ impl Kernel {
         ensures free { IsFree (found_word result) }
         ensures found { (found_word result ≡ 0) ⊎ (found_word result ≡ G.closer_of (value_in result)) }
     {
-        let mut pass = pass;
+        self.take_in_turn(rt, hw, actor, Waiter::Server(pass))
+    }
+
+    // Takes the lock in its turn. Each round has the mutex: the queue's front tries, and sleeps once it
+    // has marked the held word; all others sleep.
+    fn take_in_turn<G: Guarded>(
+        &self,
+        rt: &impl Wait,
+        hw: &HwLock<G>,
+        actor: u32,
+        waiter: Waiter<G>,
+    ) -> Hold<G>
+        requires actor { IsActor actor }
+        requires own { (waiting_token waiter).lock ≡ id_of hw.now }
+        ensures hold { IsHoldOf (waiting_token waiter) (name_wanted waiter) result }
+        ensures looks { IsTakenAfter (waiting_token waiter) result }
+        ensures free { IsFree (found_word result) }
+        ensures found { (found_word result ≡ 0) ⊎ (found_word result ≡ G.closer_of (value_in result)) }
+        ensures other { FindsOther waiter (found_word result) }
+    {
+        let mut waiter = waiter;
         let mut queue = self.queue.lock(rt);
         if !queue.contains(actor) {
             queue.join(actor);
@@ -123,16 +121,15 @@ impl Kernel {
         for _ in rt.forever() {
             let mut sleeps = true;
             if queue.front() == Some(actor) {
-                pass = match hw.take_as_server(pass) {
+                waiter = match waiter.take(hw) {
                     Ok(hold) => {
                         queue.remove(actor);
                         self.wake_front(&queue);
                         return hold;
                     }
-                    Err(refused) => refused.into_token(),
+                    Err(refused) => refused,
                 };
-                sleeps = tries.are_over()
-                    && matches!(hw.mark_as_server(&mut pass), Marked::Contended { .. });
+                sleeps = tries.are_over() && waiter.marks(hw);
             }
             if sleeps {
                 queue = self.sleepers[actor as usize].wait(rt, queue);

@@ -3,6 +3,7 @@
 
 mod kernel;
 mod queue;
+mod waiter;
 
 pub use kernel::Kernel;
 pub use queue::Queue;

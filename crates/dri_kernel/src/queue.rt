@@ -1,17 +1,20 @@
 //! The actors that wait for the lock, in the order in which they came: a vector in fixed memory, with room for all 33.
 
-ghost use Rattle.std.specs.Prelude.{◌≡◌, ◌++◌, [], ◌∷◌, ◌↔◌, ◌≤◌, ◌==◌, IsTrue, Contains, slice_get, length};
-ghost use Rattle.std.specs.List.{list_any};
-ghost use Rattle.dri_kernel.specs.Waiting.{IsActor, IsQueue, leaves};
+ghost use Rattle.std.specs.Prelude.{◌≡◌, ◌++◌, [], ◌∷◌, ◌↔◌, ◌≤◌, ◌==◌, IsTrue, Contains, not, slice_get, length};
+ghost use Rattle.std.specs.List.{filter, list_any};
+ghost use Rattle.dri_kernel.specs.Waiting.{IsActor, IsQueue};
 
 use arrayvec::ArrayVec;
 use std::marker::Model;
+
+/// The actors: the server and 32 clients.
+pub(crate) const ACTORS: usize = 33;
 
 /// The actors that wait, none of them twice: 0 is the server, 1 to 32 are the clients. Contracts see the list, the first
 /// first.
 #[derive(Drop)]
 pub struct Queue {
-    actors: ArrayVec<u32, 33>,
+    actors: ArrayVec<u32, ACTORS>,
 }
 
 impl Model for Queue {
@@ -53,7 +56,7 @@ impl Queue {
 
     /// Takes an actor out, and leaves the others in their order. Where it doesn't wait the queue stays as it was.
     pub fn remove(&mut self, actor: u32)
-        ensures { self.new ≡ leaves actor self.old }
+        ensures { self.new ≡ filter (λ other. not (other == actor)) self.old }
     {
         self.actors.retain(|other| *other != actor);
     }

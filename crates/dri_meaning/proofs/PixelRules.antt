@@ -1,6 +1,5 @@
 -- What a triangle leaves at a pixel, by its three tests.
-use Rattle.std.proofs.Common.{◌≡◌, ℕ, true, false, Option, ℤ, refl, sym, arith}
-use Rattle.std.proofs.lemmas.Int.{ints}
+use Rattle.std.proofs.Common.{◌≡◌, ℕ, true, false, Option, ℤ, refl, sym}
 use Rattle.dri_base.specs.declared.colour.Pixel.{Pixel}
 use Rattle.dri_base.specs.declared.colour.Rgb.{Rgb}
 use Rattle.dri_base.specs.declared.colour.Rgba.{Rgba}
@@ -8,14 +7,8 @@ use Rattle.dri_base.specs.declared.shape.Triangle.{Triangle}
 use Rattle.dri_base.specs.Coverage.{covers, quantity}
 use Rattle.dri_base.specs.Fragments.{Rules, fragment, in_scissor, shaded}
 use Rattle.dri_base.specs.Texels.{Image}
-use Rattle.dri_raster.specs.Edges.{IsPixel}
 use Rattle.dri_texel.specs.declared.pixel.RegisterView.{RegisterView}
 use Rattle.dri_texel.specs.Pixels.{IsPixelRule, left_over, texel_used, view_of}
-use Rattle.dri_meaning.specs.Scripts.{IsWindowPlace}
-
--- a window's columns and rows are near enough for a triangle's pixels
-pub window_pixel : (n : ℤ) → IsWindowPlace n → IsPixel n
-window_pixel n place = (omega (arith, ints, place.0), omega (arith, ints, place.1))
 
 pub uncovered : (r : Rules) (image : Option Image) (t : Triangle) (x y : ℤ) (under : Pixel) → covers t x y ≡ false → under ≡ fragment r image t x y under
 uncovered r image t x y under out = rw out refl

@@ -1,5 +1,5 @@
 -- A frame drawn alone, command by command, and the picture of it.
-use Rattle.std.proofs.Common.{◌≡◌, ◌<◌, ℕ, zero, suc, ◌+◌, ◌-◌, pred, List, Some, ℤ, All, refl, sym, ap, ◌∙◌, subst, arith}
+use Rattle.std.proofs.Common.{◌≡◌, ◌<◌, ℕ, zero, suc, ◌+◌, ◌-◌, pred, List, Some, ℤ, refl, sym, ap, ◌∙◌, subst, arith}
 use Rattle.std.proofs.lemmas.Simd.{map-map}
 use Rattle.std.proofs.lemmas.Option.{get_or_from_slice_get, slice_get_within}
 use Rattle.std.specs.Prelude.{◌*◌, ◌/◌, ◌%◌, map, pos, slice_get}
@@ -14,7 +14,7 @@ use Rattle.dri_base.specs.Ranges.{CommandInRange, texture_numbers}
 use Rattle.dri_base.specs.declared.state.State.{State}
 use Rattle.dri_base.specs.States.{state_after, state_at}
 use Rattle.dri_base.specs.Texels.{own_image}
-use Rattle.dri_meaning.specs.Scripts.{HasTexels, ScriptInRange}
+use Rattle.dri_meaning.specs.Scripts.{ScriptInRange}
 use Rattle.dri_core.specs.Solo.{blank, drawn_at, drawn_by, frame, solo, solo_between, solo_frame}
 use Rattle.dri_core.proofs.Invariant.{state_on}
 
@@ -22,10 +22,6 @@ use Rattle.dri_core.proofs.Invariant.{state_on}
 abbrev pub solo_before : ClientScript → ℕ → ℕ → ℤ → ℤ → Pixel
 solo_before p first zero x y = blank
 solo_before p first (suc n) x y = solo p first n x y
-
--- the textures have their texels
-pub have_texels : (p : ClientScript) → ScriptInRange p → All HasTexels p.textures
-have_texels p good k t at = let there = good.textured.each k t at in record { wide = there.wide; high = there.high; whole = there.whole }
 
 -- each command is in range
 pub command_there : (p : ClientScript) (k : ℕ) (command : Command) → ScriptInRange p → slice_get p.commands k ≡ Some command → CommandInRange (texture_numbers p.textures) command
@@ -59,12 +55,8 @@ state_after_on cs first n k command old new positive place here is_state then =
     let at : slice_get cs (pred (first + n)) ≡ Some command = rw same here in
     rw e (rw (state_on cs (first + n) (omega (arith, positive)), at, ← is_state) then)
 
--- the whole frame
-pub solo_whole : (p : ClientScript) (first last : ℕ) (x y : ℤ) → first < last → solo_before p first (last - first) x y ≡ solo p first (last - suc first) x y
-solo_whole p first last x y order = let e : last - first ≡ suc (last - suc first) = omega (arith, order) in rw e refl
-
 -- what a plane's pixels become
-mapped_plane : {A B : Type 0} (g : A → B) (width height : ℕ) (f : ℕ → ℕ → A) → map g (plane width height f) ≡ plane width height (λ x y. g (f x y))
+pub mapped_plane : {A B : Type 0} (g : A → B) (width height : ℕ) (f : ℕ → ℕ → A) → map g (plane width height f) ≡ plane width height (λ x y. g (f x y))
 unfolding first_pixels
 mapped_plane g width height f = map-map g (λ k. f (k % width) (k / width)) (range_with_len 0 (width * height))
 

@@ -1,6 +1,5 @@
 -- Scenes that were worked by hand.
-use Rattle.std.specs.Prelude.{ℕ, List, [], ◌∷◌, ◌++◌, ℤ, pos, neg_ℤ, true, Some, None, map, replicate}
-use Rattle.dri_base.specs.declared.colour.Rgb.{Rgb}
+use Rattle.std.specs.Prelude.{ℕ, List, [], ◌∷◌, ◌++◌, pos, neg_ℤ, true, false, Some, None, map}
 use Rattle.dri_base.specs.declared.colour.Rgba.{Rgba}
 use Rattle.dri_base.specs.declared.command.Change.TheVariants.{Map, Unmap, Move, Resize, Raise, Lower}
 use Rattle.dri_base.specs.declared.command.Change.{Change}
@@ -15,7 +14,9 @@ use Rattle.dri_base.specs.declared.state.Blend.TheVariants as Blend_is
 use Rattle.dri_base.specs.declared.state.DepthFunc.TheVariants as Depth_is
 use Rattle.dri_base.specs.declared.state.Setting.TheVariants as Setting_is
 use Rattle.dri_base.specs.declared.state.Setting.{Setting}
+use Rattle.dri_base.specs.declared.state.Shade.TheVariants as Shade_is
 use Rattle.dri_base.specs.declared.state.TexMode.TheVariants as Mode_is
+use Rattle.dri_base.specs.declared.state.Wrap.TheVariants as Wrap_is
 use Rattle.dri_base.specs.declared.texture.TexFormat.TheVariants.{L8, Rgb565}
 use Rattle.dri_base.specs.declared.texture.Texture.{Texture}
 use Rattle.dri_core.specs.ExampleParts.{rgb, rgba, corner, corner_triangle, window, grey_texture, script, scene, turns_of, textured_frame, textured}
@@ -237,3 +238,15 @@ below = Setting_is.Scissor (Some (record { x1 = 0; y1 = 1; x2 = 1; y2 = 2 }))
 -- and a white triangle of depth 24 where it is less deep than what stands there
 abbrev pub then_less_deep : List Setting → List Command
 then_less_deep settings = on_depth_24 (map Set settings ++ probe ∷ Set (Setting_is.DepthFunc Depth_is.Less) ∷ deep_triangle 24 (rgba 0xff 0xff 0xff 0xff) ∷ [])
+
+-- each setting otherwise than in the default state
+abbrev pub all_on : List Setting
+all_on =
+    Setting_is.Shade Shade_is.Smooth ∷ Setting_is.DepthFunc Depth_is.Never ∷ Setting_is.DepthWrite true ∷ Setting_is.Blend Blend_is.Add ∷
+    Setting_is.TexMode Mode_is.Replace ∷ Setting_is.Wrap Wrap_is.Clamp ∷ Setting_is.Bind (Some 1) ∷ below ∷ []
+
+-- and each as it is there
+abbrev pub all_off : List Setting
+all_off =
+    Setting_is.Shade Shade_is.Flat ∷ Setting_is.DepthFunc Depth_is.Always ∷ Setting_is.DepthWrite false ∷ Setting_is.Blend Blend_is.Off ∷
+    Setting_is.TexMode Mode_is.Off ∷ Setting_is.Wrap Wrap_is.Repeat ∷ Setting_is.Bind None ∷ Setting_is.Scissor None ∷ []

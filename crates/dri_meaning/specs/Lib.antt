@@ -1,3 +1,4 @@
+pub mod Canvases
 pub mod Reports
 pub mod ExampleScenes
 pub mod ExampleRuns

@@ -4,6 +4,7 @@
 #![tactic(auto)]
 
 mod bound;
+mod canvas;
 mod frame;
 mod picture;
 mod settings;
@@ -23,5 +24,5 @@ pub use worked::{
     a_scissor, a_triangle, changed_beside, changes_one_by_one, columns, covered_and_uncovered,
     covered_in_part, covered_whole, death, death_of_two_windows, depths, each_depth, each_setting,
     killed_before, killed_in_a_hold, marked, no_hold_runs, no_holds, own_card, shown_again,
-    stopped, two_blends, two_holds, two_places, two_textures, why_refused,
+    stopped, turned_off, two_blends, two_holds, two_places, two_textures, why_refused,
 };

@@ -1,15 +1,15 @@
-//! A frame drawn alone, whole: the list of its pixels, row by row. The frame is found once, and each pixel is drawn by
-//! itself.
+//! A frame drawn alone, whole: the list of its pixels, row by row. The frame is found once, and its triangles are drawn by the
+//! card's own walk.
 
-ghost use Rattle.std.specs.Prelude.{◌≡◌, ◌≤◌, ◌<◌, ◌-◌, ◌↔◌, ◌/◌, ◌%◌, Err, IfOk, None, Some, length, map, pos, suc, ℤ};
+ghost use Rattle.std.specs.Prelude.{◌≡◌, ◌↔◌, Err, IfOk, None, Some, map, pos, ℤ};
 ghost use Rattle.dri_base.specs.Planes.{plane};
 ghost use Rattle.dri_base.specs.Ranges.{IsSide};
 ghost use Rattle.dri_meaning.specs.Scripts.{ScriptInRange};
-ghost use Rattle.dri_core.specs.Solo.{solo, solo_frame};
+ghost use Rattle.dri_core.specs.Solo.{solo_frame};
 ghost use Rattle.dri_meaning.specs.declared.picture.SoloFault.TheVariants.{NoFrame};
 
-use crate::frame::{Frame, frame_of};
-use crate::solo::solo;
+use crate::canvas::colours;
+use crate::frame::frame_of;
 use dri_base::{ClientScript, OutOfMemory, Rgb, Sequence};
 use std::alloc::Global;
 
@@ -41,30 +41,6 @@ impl From<OutOfMemory> for SoloFault {
     fn from(_error: OutOfMemory) -> SoloFault {
         SoloFault::OutOfMemory
     }
-}
-
-/// The colours that a frame leaves in a window of these sides, row by row.
-fn colours(
-    alloc: Global,
-    script: &ClientScript,
-    frame: Frame,
-    width: u32,
-    height: u32,
-) -> Result<Pixels, OutOfMemory>
-    requires script { ScriptInRange script.now }
-    requires first { 0 < frame.clear }
-    requires order { frame.clear < frame.swap }
-    requires within { frame.swap ≤ length script.now.commands }
-    requires width { IsSide width }
-    requires height { IsSide height }
-    ensures { IfOk result (λ pixels. pixels ≡ plane width height (λ x y. (solo script.now frame.clear (frame.swap - suc frame.clear) (pos x) (pos y)).colour)) }
-{
-    let mut pixels = Sequence::new(alloc);
-    for n in 0..width * height {
-        let (x, y) = ((n % width) as i32, (n / width) as i32);
-        pixels.push(solo(script, frame, x, y).colour)?;
-    }
-    Ok(pixels)
 }
 
 /// Frame `frame` drawn alone in a window of these sides, each 1 to 1,024. It is refused with `NoFrame` exactly where the

@@ -15,7 +15,7 @@ use crate::triangle::triangle_at;
 use dri_base::{ClientScript, Command, Pixel, Rgb, State, Triangle};
 
 /// Black, as deep as can be: what stands under a frame's clear.
-const BLANK: Pixel = Pixel {
+pub const BLANK: Pixel = Pixel {
     colour: Rgb { r: 0, g: 0, b: 0 },
     depth: 65535,
 };

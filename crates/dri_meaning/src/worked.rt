@@ -6,15 +6,17 @@ ghost use Rattle.std.specs.Prelude.{◌++◌};
 ghost use Rattle.dri_base.specs.declared.journal.Entry.TheVariants.{Gone, Kernel, Leave, Stale, Info, Change, Run, Light, Emit, Place};
 ghost use Rattle.dri_base.specs.declared.command.Command.TheVariants.{Set};
 ghost use Rattle.dri_base.specs.declared.state.Blend.TheVariants.{Alpha, Add};
+ghost use Rattle.dri_base.specs.declared.state.Blend.TheVariants as Blend_is;
 ghost use Rattle.dri_base.specs.declared.state.DepthFunc.TheVariants.{Never, Less, Equal, LessEqual, Greater, NotEqual, GreaterEqual, Always};
-ghost use Rattle.dri_base.specs.declared.state.Setting.TheVariants.{Shade, Blend, TexMode, Wrap, Bind, Scissor, DepthWrite};
-ghost use Rattle.dri_base.specs.declared.state.Shade.TheVariants.{Smooth};
+ghost use Rattle.dri_base.specs.declared.state.Setting.TheVariants.{Shade, DepthFunc, DepthWrite, Blend, TexMode, Wrap, Bind, Scissor};
+ghost use Rattle.dri_base.specs.declared.state.Shade.TheVariants.{Flat, Smooth};
 ghost use Rattle.dri_base.specs.declared.state.TexMode.TheVariants.{Replace, Modulate};
-ghost use Rattle.dri_base.specs.declared.state.Wrap.TheVariants.{Clamp};
+ghost use Rattle.dri_base.specs.declared.state.TexMode.TheVariants as Mode_is;
+ghost use Rattle.dri_base.specs.declared.state.Wrap.TheVariants.{Clamp, Repeat};
 ghost use Rattle.dri_core.specs.ExampleParts.{rgb};
 ghost use Rattle.dri_core.specs.Decide.{is_hold_run};
 ghost use Rattle.dri_core.specs.Cores.{journal_of};
-ghost use Rattle.dri_meaning.specs.ExampleScenes.{one_triangle, two_frames, under_another, killed_first, dies, covered, beside, waiting_one, killed, one_region, cut_out, blended_twice, partly_covered, moved_about, refused_changes, allowed_changes, two_windows, shown_twice, taken_again, stopped_in_the_queue, in_depth, by_default, along_the_row, two_regions, probed, turned_probe, on_depth_24, then_less_deep, to_the_right, below};
+ghost use Rattle.dri_meaning.specs.ExampleScenes.{one_triangle, two_frames, under_another, killed_first, dies, covered, beside, waiting_one, killed, one_region, cut_out, blended_twice, partly_covered, moved_about, refused_changes, allowed_changes, two_windows, shown_twice, taken_again, stopped_in_the_queue, in_depth, by_default, along_the_row, two_regions, probed, turned_probe, on_depth_24, then_less_deep, to_the_right, below, all_on, all_off};
 ghost use Rattle.dri_meaning.specs.ExampleRuns.{picture, summary, word_after_all, red, green, blue, grey, one_triangle_journal, two_frames_journal, dies_journal, covered_journal, beside_journal, waiting_one_journal, killed_journal, one_region_journal, cut_out_journal, blended_twice_journal, partly_covered_journal, seven_changes, row, refusals_after, taken_again_journal, stopped_journal, first_hold, first_triangle, two_regions_journal, alone, ground, third, all_three, greys, where_drawn};
 ghost use Rattle.dri_core.specs.Runs.{after, HoldRun};
 ghost use Rattle.dri_base.specs.Ranges.{InRange};
@@ -248,6 +250,16 @@ pub fn each_setting()
     ensures right_of { (alone (probed (to_the_right ∷ [])) 0 ≡ ground ∷ third ∷ third ∷ []) × (alone (probed (to_the_right ∷ [])) 1 ≡ all_three ground) }
     ensures below { (alone (probed (below ∷ [])) 0 ≡ all_three ground) × (alone (probed (below ∷ [])) 1 ≡ third ∷ ground ∷ ground ∷ []) }
     ensures no_scissor { alone (probed (below ∷ Scissor None ∷ [])) 0 ≡ all_three third }
+{}
+
+/// Each setting set and turned off again: the frame is drawn as without it.
+pub fn turned_off()
+    ensures shade { alone (probed (Shade Smooth ∷ Shade Flat ∷ [])) 0 ≡ all_three third }
+    ensures blend { alone (probed (Blend Alpha ∷ Blend Blend_is.Off ∷ [])) 0 ≡ all_three third }
+    ensures mode { alone (probed (TexMode Replace ∷ Bind (Some 1) ∷ TexMode Mode_is.Off ∷ [])) 0 ≡ all_three third }
+    ensures depth { alone (probed (DepthFunc Never ∷ DepthFunc Always ∷ [])) 0 ≡ all_three third }
+    ensures wrap { alone (probed (TexMode Replace ∷ Bind (Some 1) ∷ Wrap Clamp ∷ Wrap Repeat ∷ [])) 0 ≡ greys 30 40 30 }
+    ensures all { alone (then_less_deep (all_on ++ all_off)) 0 ≡ all_three third }
 {}
 
 /// Depths 8, 24 and 40 over depth 24 with each depth function, and which depths a triangle leaves.

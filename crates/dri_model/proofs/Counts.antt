@@ -2,7 +2,7 @@
 use Rattle.std.proofs.Common.{◌≡◌, ◌<◌, ◌≤◌, ◌+◌, ℕ, zero, suc, Bool, true, false, arith, refl, sym, inl, inr}
 use Rattle.std.specs.Prelude.{◌⊎◌}
 use Rattle.std.proofs.lemmas.Bool.{true≢false, cases_eq, or_parts}
-use Rattle.dri_model.specs.Counting.{any_from}
+use Rattle.dri_model.specs.Counting.{any_from, how_many}
 
 -- where none of the numbers has the property, each one lacks it
 pub none_from : (p : ℕ → Bool) (first n k : ℕ) → any_from p first n ≡ false → first ≤ k → k < first + n → p k ≡ false
@@ -24,3 +24,13 @@ some_from p first (suc n) e = by_last (p (first + n)) refl (some_from p first n)
     by_last : (b : Bool) → p (first + n) ≡ b → (any_from p first n ≡ true → (k : ℕ) × (first ≤ k) × (k < first + n) × (p k ≡ true)) → (k : ℕ) × (first ≤ k) × (k < first + suc n) × (p k ≡ true)
     by_last true h below = (first + n, omega arith, omega arith, h)
     by_last false h below = let r = below (rw h at e) in (r.0, r.1, omega (arith, r.2), r.3)
+
+-- the property holds of some of these numbers exactly where the other does
+pub any_same : (p q : ℕ → Bool) (first n : ℕ) → ((k : ℕ) → first ≤ k → k < first + n → p k ≡ q k) → any_from p first n ≡ any_from q first n
+any_same p q first zero h = refl
+any_same p q first (suc n) h = rw (h (first + n) (omega arith) (omega arith), any_same p q first n (λ k l m. h k l (omega arith))) refl
+
+-- at most all numbers below n have a property
+pub how_many_all : (p : ℕ → Bool) (n : ℕ) → how_many p n ≤ n
+how_many_all p zero = omega arith
+how_many_all p (suc n) = grind (arith, how_many_all p n)

@@ -6,7 +6,7 @@ use Rattle.std.proofs.lemmas.Bool.{true≢false, cases_eq, false_from_ne_true}
 use Rattle.dri_model.specs.Counting.{how_many}
 use Rattle.dri_model.specs.Heaps.{Heap, leads_class, older_classes, is_room, fits, lowest_place, classes_for, is_place_for}
 use Rattle.dri_model.specs.Counting.{any_from, least}
-use Rattle.dri_model.proofs.Counts.{none_from, some_from}
+use Rattle.dri_model.proofs.Counts.{none_from, some_from, how_many_all}
 
 -- the least number with the property has it
 least_is : (p : ℕ → Bool) (n k : ℕ) → k < n → p k ≡ true → (p (least p n) ≡ true) × (least p n < n)
@@ -47,10 +47,6 @@ below_has q (suc n) lt = by_below (any_from q 0 n) refl (q n) refl
         top t = omega arith
 
 -- fewer than all have a property that one lacks
-how_many_all : (p : ℕ → Bool) (n : ℕ) → how_many p n ≤ n
-how_many_all p zero = omega arith
-how_many_all p (suc n) = grind (arith, how_many_all p n)
-
 how_many_less : (p : ℕ → Bool) (n k : ℕ) → k < n → p k ≡ false → how_many p n < n
 how_many_less p zero k l e = absurd (omega arith)
 how_many_less p (suc n) k l e = by_place (cases_eq k n) (how_many_less p n k)

@@ -6,17 +6,18 @@ use Rattle.dri_base.specs.declared.scene.Window.{Window}
 use Rattle.dri_base.specs.declared.command.Change.{Change}
 use Rattle.dri_base.specs.declared.command.Change.TheVariants.{Map, Unmap, Move, Resize, Raise, Lower}
 use Rattle.dri_base.specs.Ranges.{is_corner, is_side}
+use Rattle.dri_base.specs.Scenes.{named_by}
 use Rattle.dri_model.specs.Counting.{all_below, how_many}
 
 -- the window's rectangle has the pixel
-abbrev pub has_pixel : Window → ℕ → ℕ → Bool
-has_pixel w x y =
+abbrev pub window_has : Window → ℕ → ℕ → Bool
+window_has w x y =
     (int_le w.x (pos x) && int_lt (pos x) (w.x +ℤ pos w.width)) && (int_le w.y (pos y) && int_lt (pos y) (w.y +ℤ pos w.height))
 
 -- the topmost mapped window at the pixel
 abbrev pub top : List Window → ℕ → ℕ → Option Window
 top [] x y = None
-top (w ∷ ws) x y = if w.mapped && has_pixel w x y then Some w else top ws x y
+top (w ∷ ws) x y = if w.mapped && window_has w x y then Some w else top ws x y
 
 -- it is window n
 abbrev pub is_window : ℕ → Option Window → Bool
@@ -52,15 +53,6 @@ refused_at (Move n x y) w = if is_corner x && is_corner y then None else Some Ou
 refused_at (Resize n width height) w = if is_side width && is_side height then None else Some OutOfRange
 refused_at (Raise n) w = None
 refused_at (Lower n) w = None
-
--- the window that a change names
-abbrev pub named_by : Change → ℕ
-named_by (Map n) = n
-named_by (Unmap n) = n
-named_by (Move n x y) = n
-named_by (Resize n width height) = n
-named_by (Raise n) = n
-named_by (Lower n) = n
 
 -- a window that isn't on the board comes first
 abbrev pub refused_for : Change → Option Window → Option Refusal

@@ -4,6 +4,7 @@ pub mod Rings
 pub mod Covered
 pub mod Quantities
 pub mod Rows
+pub mod Counts
 pub mod Filters
 pub mod CommonEdges
 mod SumBounds

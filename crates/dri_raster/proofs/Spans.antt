@@ -112,7 +112,7 @@ rows_fail false q b h = refl
 pub beyond_rows : (r : Rect) (x y : ℤ) (b : Bool) → (int_le r.y1 y && int_lt y r.y2) ≡ false → (in_bounds r x y && b) ≡ false
 beyond_rows r x y b out = rows_fail (int_le r.x1 x && int_lt x r.x2) (int_le r.y1 y && int_lt y r.y2) b out
 
-rows_hold : (p q b : Bool) → q ≡ true → ((p && q) && b) ≡ (p && b)
+pub rows_hold : (p q b : Bool) → q ≡ true → ((p && q) && b) ≡ (p && b)
 rows_hold true q b h = ap (λ k. k && b) h
 rows_hold false q b h = refl
 

@@ -38,6 +38,7 @@ impl<'a> Model for Runner<'a> {
 
 impl<'a> Runner<'a> {
     /// A runner that stands at pixel (x, y), whose centre the triangle covers.
+    #[inline(always)]
     pub fn new(setup: &'a Setup, channel: Channel, x: i32, y: i32) -> Runner<'a>
         requires { IsTrue (covers setup.now x y) }
         ensures { result ≡ record { triangle = setup.now; channel = channel; x = x; y = y } }
@@ -60,6 +61,7 @@ impl<'a> Runner<'a> {
     }
 
     /// The quantity at the pixel at which the runner stands.
+    #[inline(always)]
     pub fn value(&self) -> u32
         ensures value { result ≡ quantity self.now.triangle (value_of self.now.channel) self.now.x self.now.y }
         ensures bounded { result ≤ most self.now.channel }
@@ -68,6 +70,7 @@ impl<'a> Runner<'a> {
     }
 
     /// Steps to the next pixel to the right, whose centre the triangle covers.
+    #[inline(always)]
     pub fn step(&mut self)
         requires { IsTrue (covers self.old.triangle (self.old.x +ℤ pos 1) self.old.y) }
         ensures { self.new ≡ record self.old { x = self.old.x +ℤ pos 1 } }

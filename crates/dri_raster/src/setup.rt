@@ -112,6 +112,7 @@ impl Setup {
     }
 
     /// A runner of a channel that stands at pixel (x, y), whose centre the triangle covers.
+    #[inline(always)]
     pub fn runner(&self, channel: Channel, x: i32, y: i32) -> Runner<'_>
         requires { IsTrue (covers self.now x y) }
         ensures { result ≡ record { triangle = self.now; channel = channel; x = x; y = y } }

@@ -10,7 +10,7 @@ use Rattle.dri_base.specs.declared.shape.Rect.{Rect}
 use Rattle.dri_rect.specs.declared.operation.Operation.{Operation}
 use Rattle.dri_rect.specs.declared.operation.Operation.TheVariants.{Unite, Subtract, Intersect}
 use Rattle.dri_rect.specs.Pixels.{In, in_columns, in_lines, inside, IsProper, Follows, IsBanded, IsTopped, IsCanonical, least, most}
-use Rattle.dri_rect.specs.Walk.{row, answer, Apart, FitsAcross, IsRow, Fits, Bounded, IsLesser, rectangle, IsCombined, both_empty, is_done, Split, Ends, AheadDown, ReachesDown, IsBands, StretchDown, LaterDown, placed, same_columns, settled, settled_row, settled_top, CutsBand, IsCut, Built, BandWalk, IsAnswer, begins, Added, Placing, joined, joined_start, lowered, IsLevel}
+use Rattle.dri_rect.specs.Walk.{row, answer, Apart, FitsAcross, IsRow, Fits, Bounded, IsLesser, rectangle, IsCombined, both_empty, is_done, Split, Ends, AheadDown, ReachesDown, IsBands, StretchDown, LaterDown, placed, same_columns, settled, settled_row, settled_top, CutsBand, IsCut, Built, BandWalk, IsAnswer, begins, Added, Placing, joined, joined_start, lowered, IsLevel, IsRegion, Under, IsRest}
 use Rattle.dri_rect.proofs.Unique.{found, proper, each, one_band, unique}
 use Rattle.dri_rect.proofs.RowWalks.{all_weaker, all_append, row_further, row_smaller, nothing}
 use Rattle.dri_rect.proofs.Placed.{length_append, take_front, drop_front}
@@ -378,6 +378,7 @@ later_down_more r rs xs ys y i a l k = record {
   is_bands = record { banded = down; range = all_right Fits xs ys (subst (AllByRecursion Fits) k.whole i.range) };
   ahead = next ys down (behind r rs xs ys i.banded k);
   same = λ x z p. subst (λ w. inside w x z ≡ inside ys x z) (sym k.whole) (rw (inside_append xs ys x z, above_line xs r.y2 x z (all_weaker (λ s. s.y2 ≡ r.y2) (λ s. s.y2 ≤ℤ r.y2) xs (λ s e. omega (arith, ints)) (bottoms r rs xs ys i.banded k)) (omega (arith, ints))) refl);
+  part = λ s h. subst (In s) (sym k.whole) (in_right s xs ys h);
 }
   where
     down : IsBanded ys
@@ -388,10 +389,10 @@ later_down_more r rs xs ys y i a l k = record {
     next (s ∷ ss) b p = omega (arith, ints, p.0, b.0.down)
 
 pub later_down_same : (rs : List Rect) (y : ℤ) → IsBands rs → AheadDown rs y → LaterDown rs rs y
-later_down_same rs y i a = record { is_bands = i; ahead = a; same = λ x z p. refl }
+later_down_same rs y i a = record { is_bands = i; ahead = a; same = λ x z p. refl; part = λ r h. h }
 
 later_down_then : (a rs ts : List Rect) (y e : ℤ) → LaterDown a rs y → y ≤ℤ e → LaterDown rs ts e → LaterDown a ts e
-later_down_then a rs ts y e p l q = record { is_bands = q.is_bands; ahead = q.ahead; same = λ x z h. p.same x z (omega (arith, ints)) ∙ q.same x z h }
+later_down_then a rs ts y e p l q = record { is_bands = q.is_bands; ahead = q.ahead; same = λ x z h. p.same x z (omega (arith, ints)) ∙ q.same x z h; part = λ r h. p.part r (q.part r h) }
 
 starts_ahead : (rs : List Rect) → IsBands rs → AheadDown rs least
 starts_ahead [] i = tt
@@ -650,3 +651,99 @@ placing_step op a b first second items start y p one other e f m e' f' m' s t so
 
 pub placing_done : (op : Operation) (a b first second items : List Rect) (start : ℕ) (y : ℤ) → Placing op a b first second items start y → is_done op first second ≡ true → IsAnswer op a b items
 placing_done op a b first second items start y p d = subst (IsAnswer op a b) (sym p.whole) (band_done op a b first second p.out p.pending p.top y p.walk d)
+
+-- where one of the two is over, the bands of the other that begin further down stay as they are
+pub record Rested (out : List Rect) (S : ℤ → ℤ → Bool) : Type 0 where
+  pub canonical : IsCanonical out
+  pub range : AllByRecursion Fits out
+  pub right : (x z : ℤ) → inside out x z ≡ S x z
+
+banded_under : (t : ℤ) (rs ss : List Rect) → IsBanded rs → IsBanded ss → AllByRecursion (λ r. r.y2 ≤ℤ t) rs → AllByRecursion (λ s. t <ℤ s.y1) ss → IsBanded (rs ++ ss)
+banded_under t [] ss a b p q = b
+banded_under t (r ∷ rs) ss a b p q = (a.0, all_append (Follows r) rs ss a.1 (all_weaker _ _ ss (λ s h. inr (omega (arith, ints, h, p.0))) q), banded_under t rs ss a.2 b p.1 q)
+
+all_under : (rs : List Rect) (y : ℤ) → IsBanded rs → Under rs y → AllByRecursion (λ s. y <ℤ s.y1) rs
+all_under [] y b u = tt
+all_under (r ∷ rs) y b u = (u, all_weaker (Follows r) _ rs by b.1)
+  where
+    by : (s : Rect) → Follows r s → y <ℤ s.y1
+    by s (inl f) = omega (arith, ints, f.0, u)
+    by s (inr f) = omega (arith, ints, f, u, b.0.down)
+
+rested : (out c rest : List Rect) (y : ℤ) (S : ℤ → ℤ → Bool) → Flushed out y S → LaterDown c rest y → IsRegion c → Under rest y → ((x z : ℤ) → y ≤ℤ z → S x z ≡ inside c x z) → Rested (out ++ rest) S
+rested out c rest y S f l k u s = record {
+  canonical = record {
+    banded = banded_under y out rest f.canonical.banded l.is_bands.banded f.above under;
+    topped = λ r i. by r (in_append r out rest i);
+  };
+  range = all_append Fits out rest f.range l.is_bands.range;
+  right = λ x z. by_lt_z z y (λ h. old x z h ∙ f.right x z h) (λ h. new x z h ∙ sym (s x z h));
+}
+  where
+    under : AllByRecursion (λ s. y <ℤ s.y1) rest
+    under = all_under rest y l.is_bands.banded u
+
+    old : (x z : ℤ) → z <ℤ y → inside (out ++ rest) x z ≡ inside out x z
+    old x z h = rw (inside_append out rest x z, below_line rest y x z (all_weaker _ _ rest (λ s g. omega (arith, ints, g)) under) h) (or_false _)
+
+    new : (x z : ℤ) → y ≤ℤ z → inside (out ++ rest) x z ≡ inside c x z
+    new x z h = rw (inside_append out rest x z, above_line out y x z f.above h) (sym (l.same x z h))
+
+    by : (r : Rect) → In r out ⊎ In r rest → IsTopped (out ++ rest) r
+    by r (inl i) same = f.canonical.topped r i (λ x. sym (old x (r.y1 -ℤ pos 1) (omega (arith, ints, high, size.down))) ∙ (same x ∙ old x r.y1 (omega (arith, ints, high, size.down))))
+      where
+        high : r.y2 ≤ℤ y
+        high = each (λ r. r.y2 ≤ℤ y) out r f.above i
+
+        size : IsProper r
+        size = proper out r f.canonical.banded i
+    by r (inr i) same = k.canonical.topped r (l.part r i) (λ x. sym (new x (r.y1 -ℤ pos 1) (omega (arith, ints, low))) ∙ (same x ∙ new x r.y1 (omega (arith, ints, low))))
+      where
+        low : y <ℤ r.y1
+        low = each (λ s. y <ℤ s.y1) rest r under i
+
+pub placing_rest : (op : Operation) (a b first second items : List Rect) (start : ℕ) (y : ℤ) → Placing op a b first second items start y → IsRegion a → IsRegion b → is_done op first second ≡ false
+    → (rest : List Rect) → IsRest first second rest y → IsAnswer op a b (items ++ rest)
+placing_rest op a b first second items start y p k m d rest r = subst (λ (ts : List Rect). IsAnswer op a b (ts ++ rest)) (sym p.whole) (answer_of (by op p.walk d r))
+  where
+    whole : List Rect
+    whole = p.out ++ placed p.top y p.pending
+
+    f : (o : Operation) → BandWalk o a b first second p.out p.pending p.top y → Flushed whole y (λ x z. answer o (inside a x z) (inside b x z))
+    f o w = flushed p.out p.pending p.top y (λ x z. answer o (inside a x z) (inside b x z)) w.built w.high
+
+    gone : (c : List Rect) (ts : List Rect) → LaterDown c ts y → ts ≡ [] → (x z : ℤ) → y ≤ℤ z → inside c x z ≡ false
+    gone c ts l e x z h = l.same x z h ∙ rw e refl
+
+    on : (o : Operation) → ((q : Bool) → answer o q false ≡ q) → BandWalk o a b first second p.out p.pending p.top y → second ≡ [] → rest ≡ first → Under first y → Rested (whole ++ rest) (λ x z. answer o (inside a x z) (inside b x z))
+    on o unit w e same u = rw same (rested whole a first y (λ x z. answer o (inside a x z) (inside b x z)) (f o w) w.on_first k u (λ x z h. rw (gone b second w.on_second e x z h) (unit (inside a x z))))
+
+    without : (q : Bool) → answer Subtract q false ≡ q
+    without true = refl
+    without false = refl
+
+    by : (o : Operation) → BandWalk o a b first second p.out p.pending p.top y → is_done o first second ≡ false → IsRest first second rest y → Rested (whole ++ rest) (λ x z. answer o (inside a x z) (inside b x z))
+    by Unite w o (inl h) = on Unite or_false w h.0 h.1 h.2
+    by Unite w o (inr h) = rw h.1 (rested whole b second y (λ x z. answer Unite (inside a x z) (inside b x z)) (f Unite w) w.on_second m h.2 (λ x z l. rw (gone a first w.on_first h.0 x z l) refl))
+    by Subtract w o (inl h) = on Subtract without w h.0 h.1 h.2
+    by Subtract w o (inr h) = absurd (true≢false (rw h.0 at o))
+    by Intersect w o (inl h) = absurd (none_meets first (rw h.0 at o))
+      where
+        none_meets : (rs : List Rect) → is_done Intersect rs [] ≡ false → ⊥
+        none_meets [] e = true≢false e
+        none_meets (q ∷ qs) e = true≢false e
+    by Intersect w o (inr h) = absurd (true≢false (rw h.0 at o))
+
+    answer_of : Rested (whole ++ rest) (λ x z. answer op (inside a x z) (inside b x z)) → IsAnswer op a b (whole ++ rest)
+    answer_of g = record { canonical = g.canonical; range = g.range; right = g.right }
+
+-- the rest, as the code finds it
+pub rest_first : (af ab bf bb : List Rect) (r : Rect) (more : List Rect) (y : ℤ) → CutsBand bf bb → length bf ≡ 0 → af ≡ r ∷ more → y <ℤ r.y1 → IsRest (af ++ ab) (bf ++ bb) (af ++ ab) y
+rest_first af ab (s ∷ ss) bb r more y k n e l = absurd (omega (arith, n))
+rest_first [] ab [] bb r more y k n e l = cc
+rest_first (q ∷ qs) ab [] bb r more y k n e l = let same : q ≡ r = cc in inl (k, refl, subst (λ (s : Rect). y <ℤ s.y1) (sym same) l)
+
+pub rest_second : (af ab bf bb : List Rect) (r : Rect) (more : List Rect) (y : ℤ) → CutsBand af ab → length af ≡ 0 → bf ≡ r ∷ more → y <ℤ r.y1 → IsRest (af ++ ab) (bf ++ bb) (bf ++ bb) y
+rest_second (s ∷ ss) ab bf bb r more y k n e l = absurd (omega (arith, n))
+rest_second [] ab [] bb r more y k n e l = cc
+rest_second [] ab (q ∷ qs) bb r more y k n e l = let same : q ≡ r = cc in inr (k, refl, subst (λ (s : Rect). y <ℤ s.y1) (sym same) l)

@@ -1,6 +1,9 @@
 pub mod Unique
 pub mod RowWalks
+pub mod Uniting
+pub mod Subtracting
 pub mod BandWalks
 pub mod Regions
 pub mod Arrangement
 pub mod Placed
+pub mod Bounds

@@ -42,7 +42,7 @@ lowered_append b (r ∷ rs) ss = ap (λ k. rectangle r.x1 r.y1 r.x2 b ∷ k) (lo
 
 pub lower_start : (old : List Rect) (start : ℕ) (b : ℤ) → start ≤ length old → Lowering old old start start b
 lower_start old start b l = record {
-  front = take start old;
+  prefix = take start old;
   done = [];
   rest = drop start old;
   whole = sym (take-append-drop start old);
@@ -58,33 +58,33 @@ pub lower_step : (old now : List Rect) (start i : ℕ) (b : ℤ) (r : Rect) → 
     → Lowering old (set now i (rectangle r.x1 r.y1 r.x2 b)) start (i + 1) b
 lower_step old now start i b r w l e = by w.rest w.whole w.items
   where
-    place : length (w.front ++ lowered b w.done) ≡ i
-    place = length_append w.front (lowered b w.done) ∙ rw (length_lowered b w.done) (omega (arith, w.begins, w.place))
+    place : length (w.prefix ++ lowered b w.done) ≡ i
+    place = length_append w.prefix (lowered b w.done) ∙ rw (length_lowered b w.done) (omega (arith, w.begins, w.place))
 
-    by : (rest : List Rect) → old ≡ w.front ++ (w.done ++ rest) → now ≡ (w.front ++ lowered b w.done) ++ rest → Lowering old (set now i (rectangle r.x1 r.y1 r.x2 b)) start (i + 1) b
-    by [] whole items = absurd (omega (arith, l, ap length items, ap length (append-nil (w.front ++ lowered b w.done)), place))
+    by : (rest : List Rect) → old ≡ w.prefix ++ (w.done ++ rest) → now ≡ (w.prefix ++ lowered b w.done) ++ rest → Lowering old (set now i (rectangle r.x1 r.y1 r.x2 b)) start (i + 1) b
+    by [] whole items = absurd (omega (arith, l, ap length items, ap length (append-nil (w.prefix ++ lowered b w.done)), place))
     by (s ∷ ss) whole items = record {
-      front = w.front;
+      prefix = w.prefix;
       done = w.done ++ (s ∷ []);
       rest = ss;
       whole = rw (append_assoc) whole;
-      items = rw (items) (set_at (w.front ++ lowered b w.done) s ss (rectangle r.x1 r.y1 r.x2 b) i place ∙ rw (lowered_append b w.done (s ∷ []), same) (sym moved));
+      items = rw (items) (set_at (w.prefix ++ lowered b w.done) s ss (rectangle r.x1 r.y1 r.x2 b) i place ∙ rw (lowered_append b w.done (s ∷ []), same) (sym moved));
       begins = w.begins;
       place = rw (length_append w.done (s ∷ [])) (omega (arith, w.place));
     }
       where
         same : r ≡ s
-        same = e ∙ rw items (got (w.front ++ lowered b w.done) s ss i r place)
+        same = e ∙ rw items (got (w.prefix ++ lowered b w.done) s ss i r place)
 
-        moved : (w.front ++ (lowered b w.done ++ (rectangle s.x1 s.y1 s.x2 b ∷ []))) ++ ss ≡ (w.front ++ lowered b w.done) ++ (rectangle s.x1 s.y1 s.x2 b ∷ ss)
-        moved = rw (sym (append_assoc w.front (lowered b w.done) (rectangle s.x1 s.y1 s.x2 b ∷ []))) (append_assoc (w.front ++ lowered b w.done) (rectangle s.x1 s.y1 s.x2 b ∷ []) ss)
+        moved : (w.prefix ++ (lowered b w.done ++ (rectangle s.x1 s.y1 s.x2 b ∷ []))) ++ ss ≡ (w.prefix ++ lowered b w.done) ++ (rectangle s.x1 s.y1 s.x2 b ∷ ss)
+        moved = rw (sym (append_assoc w.prefix (lowered b w.done) (rectangle s.x1 s.y1 s.x2 b ∷ []))) (append_assoc (w.prefix ++ lowered b w.done) (rectangle s.x1 s.y1 s.x2 b ∷ []) ss)
 
 pub lower_end : (old now : List Rect) (start i : ℕ) (b : ℤ) → Lowering old now start i b → length now ≤ i → now ≡ take start old ++ lowered b (drop start old)
 lower_end old now start i b w l = by w.rest w.whole w.items
   where
-    place : length (w.front ++ lowered b w.done) ≡ i
-    place = length_append w.front (lowered b w.done) ∙ rw (length_lowered b w.done) (omega (arith, w.begins, w.place))
+    place : length (w.prefix ++ lowered b w.done) ≡ i
+    place = length_append w.prefix (lowered b w.done) ∙ rw (length_lowered b w.done) (omega (arith, w.begins, w.place))
 
-    by : (rest : List Rect) → old ≡ w.front ++ (w.done ++ rest) → now ≡ (w.front ++ lowered b w.done) ++ rest → now ≡ take start old ++ lowered b (drop start old)
-    by (s ∷ ss) whole items = absurd (omega (arith, l, ap length items, length_append (w.front ++ lowered b w.done) (s ∷ ss), place))
-    by [] whole items = items ∙ rw (append-nil (w.front ++ lowered b w.done), whole, append-nil w.done, take_front w.front w.done start w.begins, drop_front w.front w.done start w.begins) refl
+    by : (rest : List Rect) → old ≡ w.prefix ++ (w.done ++ rest) → now ≡ (w.prefix ++ lowered b w.done) ++ rest → now ≡ take start old ++ lowered b (drop start old)
+    by (s ∷ ss) whole items = absurd (omega (arith, l, ap length items, length_append (w.prefix ++ lowered b w.done) (s ∷ ss), place))
+    by [] whole items = items ∙ rw (append-nil (w.prefix ++ lowered b w.done), whole, append-nil w.done, take_front w.prefix w.done start w.begins, drop_front w.prefix w.done start w.begins) refl

@@ -1,11 +1,11 @@
 -- What the walks over two rows, and over the bands of two regions, keep and answer.
-use Rattle.std.specs.Prelude.{ℤ, pos, List, [], ◌∷◌, ◌++◌, ◌≡◌, ◌≢◌, ◌<ℤ◌, ◌≤ℤ◌, ◌-ℤ◌, ◌⊎◌, ℕ, ◌+◌, length, take, drop, Bool, true, false, ◌&&◌, ◌||◌, not, map, int_le, int_lt, if◌then◌else◌}
+use Rattle.std.specs.Prelude.{ℤ, pos, List, [], ◌∷◌, ◌++◌, ◌≡◌, ◌≢◌, ◌<ℤ◌, ◌≤ℤ◌, ◌-ℤ◌, ◌⊎◌, ℕ, ◌+◌, ◌<◌, length, take, drop, Bool, true, false, ◌&&◌, ◌||◌, not, map, int_le, int_lt, if◌then◌else◌}
 use Rattle.std.specs.Ordering.{int_eq}
 use Rattle.std.specs.List.{AllByRecursion}
 use Rattle.dri_base.specs.declared.shape.Rect.{Rect}
 use Rattle.dri_rect.specs.declared.operation.Operation.{Operation}
 use Rattle.dri_rect.specs.declared.operation.Operation.TheVariants.{Unite, Subtract, Intersect}
-use Rattle.dri_rect.specs.Pixels.{least, most, in_columns, inside, shift, IsBanded, IsCanonical, IsProper}
+use Rattle.dri_rect.specs.Pixels.{In, least, most, in_columns, inside, shift, IsBanded, IsCanonical, IsProper}
 
 -- whether a pixel is in the answer, by whether it is in the two sets
 abbrev pub answer : Operation → Bool → Bool → Bool
@@ -40,34 +40,10 @@ pub record IsRow (rs : List Rect) : Type 0 where
   pub apart : Apart rs
   pub fits : AllByRecursion FitsAcross rs
 
--- the first rectangle ends behind x
-abbrev pub Ahead : List Rect → ℤ → Type 0
-Ahead [] x = Unit {0}
-Ahead (r ∷ rs) x = x <ℤ r.x2
-
--- it does not end before x
-abbrev pub Reaches : List Rect → ℤ → Type 0
-Reaches [] x = Unit {0}
-Reaches (r ∷ rs) x = x ≤ℤ r.x2
-
 -- where there is a rectangle, x is in range
 abbrev pub Bounded : List Rect → ℤ → Type 0
 Bounded [] x = Unit {0}
 Bounded (r ∷ rs) x = x ≤ℤ most
-
--- from x up to, and without, the end the row has the columns from start on
-pub record Next (rs : List Rect) (x start end : ℤ) : Type 0 where
-  pub longer : x <ℤ end
-  pub right : (z : ℤ) → x ≤ℤ z → z <ℤ end → row rs z ≡ int_le start z
-  pub low : least ≤ℤ start
-  pub reaches : Reaches rs end
-  pub bounded : Bounded rs end
-
--- from x on the row ts is the row rs
-pub record Later (rs ts : List Rect) (x : ℤ) : Type 0 where
-  pub is_row : IsRow ts
-  pub ahead : Ahead ts x
-  pub same : (z : ℤ) → x ≤ℤ z → row rs z ≡ row ts z
 
 -- c is the lesser of a and b
 pub record IsLesser (a b c : ℤ) : Type 0 where
@@ -86,18 +62,6 @@ lesser_of a b = if int_lt a b then a else b
 abbrev pub greater_of : ℤ → ℤ → ℤ
 greater_of a b = if int_lt a b then b else a
 
--- where the answer begins, from x on, if the two rows begin at s and t
-abbrev pub start_of : Operation → ℤ → ℤ → ℤ → ℤ
-start_of Unite x s t = greater_of x (lesser_of s t)
-start_of Subtract x s t = greater_of x s
-start_of Intersect x s t = greater_of x (greater_of s t)
-
--- where it ends, at the end of the first of the two that ends, or before
-abbrev pub end_of : Operation → ℤ → ℤ → ℤ
-end_of Unite t end = end
-end_of Subtract t end = lesser_of t end
-end_of Intersect t end = end
-
 -- the columns from x1 up to, and without, x2, if there are any
 abbrev pub columns : ℤ → ℤ → List Rect
 columns x1 x2 = if int_lt x1 x2 then (rectangle x1 (pos 0) x2 (pos 1) ∷ []) else []
@@ -105,17 +69,6 @@ columns x1 x2 = if int_lt x1 x2 then (rectangle x1 (pos 0) x2 (pos 1) ∷ []) el
 -- what is written with these columns put last
 abbrev pub put : List Rect → ℤ → ℤ → ℤ → ℤ → List Rect
 put out top bottom x1 x2 = if int_lt x1 x2 then (out ++ (rectangle x1 top x2 bottom ∷ [])) else out
-
--- what is written where the columns from a to b are open, and those from x1 to x2 come
-abbrev pub gone_on : List Rect → ℤ → ℤ → ℤ → ℤ → ℤ → ℤ → List Rect
-gone_on out top bottom a b x1 x2 = if int_le x2 x1 then out else (if int_eq x1 b then out else put out top bottom a b)
-
--- where the columns begin, and end, that are open from then on
-abbrev pub opened : ℤ → ℤ → ℤ → ℤ → ℤ
-opened a b x1 x2 = if int_le x2 x1 then a else (if int_eq x1 b then a else x1)
-
-abbrev pub open_to : ℤ → ℤ → ℤ → ℤ
-open_to b x1 x2 = if int_le x2 x1 then b else x2
 
 -- the row between two lines
 abbrev pub placed : ℤ → ℤ → List Rect → List Rect
@@ -128,23 +81,74 @@ pub record Added (old out : List Rect) (top bottom : ℤ) (S : ℤ → Bool) : T
   pub is_row : IsRow fresh
   pub right : (z : ℤ) → row fresh z ≡ S z
 
--- what is written of the row S up to the column x, with the columns from a to b open
-pub record Written (old out : List Rect) (top bottom a b x : ℤ) (S : ℤ → Bool) : Type 0 where
+-- the rectangles begin at x or behind it
+abbrev pub From : List Rect → ℤ → Type 0
+From rs x = AllByRecursion (λ r. x ≤ℤ r.x1) rs
+
+-- the columns from x1 up to, and without, x2 are those of the rectangle that begins first in two rows, of which these stay
+pub record IsPicked (rs ss : List Rect) (x1 x2 : ℤ) (rs' ss' : List Rect) : Type 0 where
+  pub longer : x1 <ℤ x2
+  pub low : least ≤ℤ x1
+  pub high : x2 ≤ℤ most
+  pub begins : (n : ℤ) → From rs n → From ss n → n ≤ℤ x1
+  pub first_row : IsRow rs'
+  pub second_row : IsRow ss'
+  pub first_from : From rs' x1
+  pub second_from : From ss' x1
+  pub fewer : length rs' + length ss' < length rs + length ss
+  pub same : (z : ℤ) → (row rs z || row ss z) ≡ ((int_le x1 z && int_lt z x2) || (row rs' z || row ss' z))
+
+-- what is written where the columns from a to b are open, and some come that begin at x1, which is a or behind it
+abbrev pub widened : List Rect → ℤ → ℤ → ℤ → ℤ → ℤ → List Rect
+widened out top bottom a b x1 = if int_le x1 b then out else put out top bottom a b
+
+-- where the columns begin, and end, that are open from then on
+abbrev pub wide_from : ℤ → ℤ → ℤ → ℤ
+wide_from a b x1 = if int_le x1 b then a else x1
+
+abbrev pub wide_to : ℤ → ℤ → ℤ → ℤ
+wide_to b x1 x2 = if int_le x1 b then greater_of b x2 else x2
+
+-- what the union of two rows keeps: what is written, the columns from a to b that are open, and what is left of both
+pub record Uniting (one other first second old out : List Rect) (top bottom a b : ℤ) : Type 0 where
   pub fresh : List Rect
   pub items : out ≡ old ++ placed top bottom fresh
   pub is_row : IsRow fresh
   pub before : AllByRecursion (λ r. r.x2 <ℤ a) fresh
-  pub order : (a ≤ℤ b) × (b ≤ℤ x)
+  pub order : a ≤ℤ b
   pub low : least ≤ℤ a
-  pub right : (z : ℤ) → z <ℤ x → (row fresh z || (int_le a z && int_lt z b)) ≡ S z
+  pub high : b ≤ℤ most
+  pub first_row : IsRow first
+  pub second_row : IsRow second
+  pub first_from : From first a
+  pub second_from : From second a
+  pub right : (z : ℤ) → ((row fresh z || (int_le a z && int_lt z b)) || (row first z || row second z)) ≡ (row one z || row other z)
 
--- what the walk over two rows keeps
-pub record RowWalk (op : Operation) (one other first second old out : List Rect) (top bottom a b x : ℤ) : Type 0 where
-  pub on_first : Later one first x
-  pub on_second : Later other second x
-  pub written : Written old out top bottom a b x (λ z. answer op (row one z) (row other z))
+-- the rectangles begin behind z
+abbrev pub Beyond : List Rect → ℤ → Type 0
+Beyond rs z = AllByRecursion (λ r. z <ℤ r.x1) rs
+
+-- what the difference of two rows keeps: what is written, the column x before which nothing more comes, and what is left of both
+pub record Subtracting (one other first second old out : List Rect) (top bottom x : ℤ) : Type 0 where
+  pub fresh : List Rect
+  pub items : out ≡ old ++ placed top bottom fresh
+  pub is_row : IsRow fresh
+  pub before : AllByRecursion (λ r. (r.x2 <ℤ x) ⊎ Beyond first r.x2) fresh
   pub low : least ≤ℤ x
-  pub high : x ≤ℤ most
+  pub first_row : IsRow first
+  pub second_row : IsRow second
+  pub reach : AllByRecursion (λ s. x ≤ℤ s.x2) second
+  pub right : (z : ℤ) → (row fresh z || ((int_le x z && row first z) && not (row second z))) ≡ (row one z && not (row other z))
+
+-- what the intersection of two rows keeps: what is written, and what is left of both
+pub record Intersecting (one other first second old out : List Rect) (top bottom : ℤ) : Type 0 where
+  pub fresh : List Rect
+  pub items : out ≡ old ++ placed top bottom fresh
+  pub is_row : IsRow fresh
+  pub before : AllByRecursion (λ r. Beyond first r.x2 ⊎ Beyond second r.x2) fresh
+  pub first_row : IsRow first
+  pub second_row : IsRow second
+  pub right : (z : ℤ) → (row fresh z || (row first z && row second z)) ≡ (row one z && row other z)
 
 -- the row that the operation makes of two rows
 pub record IsCombined (op : Operation) (a b out : List Rect) : Type 0 where
@@ -176,7 +180,7 @@ abbrev pub Ends : List Rect → ℤ → Type 0
 Ends [] top = Unit {0}
 Ends (r ∷ rs) top = r.y1 ≢ top
 
--- xs is the part of rs in front with this first line
+-- xs is the prefix of rs with this first line
 pub record Split (rs xs ys : List Rect) (top : ℤ) : Type 0 where
   pub whole : rs ≡ xs ++ ys
   pub band : AllByRecursion (λ r. r.y1 ≡ top) xs
@@ -226,6 +230,16 @@ pub record LaterDown (rs ts : List Rect) (y : ℤ) : Type 0 where
   pub is_bands : IsBands ts
   pub ahead : AheadDown ts y
   pub same : (x z : ℤ) → y ≤ℤ z → inside rs x z ≡ inside ts x z
+  pub part : (r : Rect) → In r ts → In r rs
+
+-- the first rectangle begins below line y
+abbrev pub Under : List Rect → ℤ → Type 0
+Under [] y = Unit {0}
+Under (r ∷ rs) y = y <ℤ r.y1
+
+-- one of the two is over, and the other, which begins below line y, is the rest
+abbrev pub IsRest : List Rect → List Rect → List Rect → ℤ → Type 0
+IsRest rs ss rest y = ((ss ≡ []) × (rest ≡ rs) × Under rs y) ⊎ ((rs ≡ []) × (rest ≡ ss) × Under ss y)
 
 -- two rows have the same columns
 abbrev pub same_columns : List Rect → List Rect → Bool
@@ -280,12 +294,12 @@ lowered bottom rs = map (λ r. rectangle r.x1 r.y1 r.x2 bottom) rs
 
 -- the rows from start on get another last line: those before place i have it
 pub record Lowering (old now : List Rect) (start i : ℕ) (bottom : ℤ) : Type 0 where
-  pub front : List Rect
+  pub prefix : List Rect
   pub done : List Rect
   pub rest : List Rect
-  pub whole : old ≡ front ++ (done ++ rest)
-  pub items : now ≡ (front ++ lowered bottom done) ++ rest
-  pub begins : length front ≡ start
+  pub whole : old ≡ prefix ++ (done ++ rest)
+  pub items : now ≡ (prefix ++ lowered bottom done) ++ rest
+  pub begins : length prefix ≡ start
   pub place : i ≡ start + length done
 
 -- the last two rows begin at start and at fresh: what they become, and where the last row begins then

@@ -1,8 +1,9 @@
 //! The walk down the bands of two regions.
 
-ghost use Rattle.std.specs.Prelude.{◌≡◌, ◌++◌, ◌≤ℤ◌, IfOk, take, drop, ◌≤◌, length, vec_len};
+ghost use Rattle.std.specs.Prelude.{◌≡◌, ◌++◌, ◌≤ℤ◌, IfOk, OnOk, take, drop, ◌≤◌, length, vec_len};
 ghost use Rattle.dri_rect.specs.Pixels.{most};
-ghost use Rattle.dri_rect.specs.Walk.{IsBands, IsCut, CutsBand, IsAnswer, Split, StretchDown, LaterDown, ReachesDown, AheadDown, lowered, joined, joined_start, same_columns, begins};
+ghost use Rattle.dri_rect.specs.Walk.{IsBands, IsCut, CutsBand, IsAnswer, Split, StretchDown, LaterDown, ReachesDown, AheadDown, lowered, joined, joined_start, same_columns, begins, IsRegion, IsRest};
+ghost use Rattle.std.specs.Option.{IfSome};
 
 use crate::operation::Operation;
 use crate::rows::{BEHIND, LEAST, combine_rows, is_done, is_same_row, lesser};
@@ -27,7 +28,7 @@ fn begins_at(rects: &[Rect], n: usize, top: i32) -> bool
     }
 }
 
-/// The rectangles in front that begin at the line, and those behind them.
+/// The first rectangles, those that begin at the line, and those behind them.
 fn split_band(rects: &[Rect], top: i32) -> (&[Rect], &[Rect])
     ensures { Split rects.now result.0.now result.1.now top }
 {
@@ -95,6 +96,32 @@ fn pass(bands: Bands<'_>, y: i32) -> Bands<'_>
     }
 }
 
+/// The bands of one, where the other is over and these begin below a line.
+fn rest_of<'a>(above: Bands<'a>, below: Bands<'a>, y: i32) -> Option<Bands<'a>>
+    requires above { CutsBand above.first.now above.below.now }
+    requires below { CutsBand below.first.now below.below.now }
+    ensures { IfSome result (λ rest. IsRest (above.entry.first.now ++ above.entry.below.now) (below.entry.first.now ++ below.entry.below.now) (rest.first.now ++ rest.below.now) y) }
+{
+    if above.first.is_empty() {
+        let (head, _) = below.first.split_first()?;
+        return if y < head.y1 { Some(below) } else { None };
+    }
+    if below.first.is_empty() {
+        let (head, _) = above.first.split_first()?;
+        return if y < head.y1 { Some(above) } else { None };
+    }
+    None
+}
+
+/// Puts bands last, as they are.
+fn put_bands(bands: Bands<'_>, out: &mut Vec<Rect>) -> Result<(), OutOfMemory>
+    ensures { OnOk result (out.new.items ≡ out.old.items ++ (bands.entry.first.now ++ bands.entry.below.now)) }
+{
+    out.extend_from_slice(bands.first)?;
+    out.extend_from_slice(bands.below)?;
+    Ok(())
+}
+
 /// The bands with another last line.
 fn lower(out: &mut Vec<Rect>, start: usize, bottom: i32)
     requires { start ≤ vec_len out.old }
@@ -133,7 +160,8 @@ fn settle(out: &mut Vec<Rect>, start: usize, fresh: usize, bottom: i32) -> usize
     }
 }
 
-/// The operation on two regions, by one walk over the bands of both. Where nothing can come it takes no memory.
+/// The operation on two regions, by one walk over the bands of both. Where one of them is over, what is left of the other is
+/// copied whole. Where nothing can come it takes no memory.
 #[tactic(auto, using(crate::proofs::BandWalks::no_answer))]
 pub fn combine(
     alloc: Global,
@@ -141,8 +169,8 @@ pub fn combine(
     first: &[Rect],
     second: &[Rect],
 ) -> Result<Vec<Rect>, OutOfMemory>
-    requires first { IsBands first.now }
-    requires second { IsBands second.now }
+    requires first { IsRegion first.now }
+    requires second { IsRegion second.now }
     ensures { IfOk result (λ out. IsAnswer operation first.now second.now out.items) }
 {
     if is_done(operation, first, second) {
@@ -154,6 +182,10 @@ pub fn combine(
     let mut start = 0;
     let mut y = LEAST;
     while !is_done(operation, above.first, below.first) {
+        if let Some(rest) = rest_of(above, below, y) {
+            put_bands(rest, &mut out)?;
+            return Ok(out);
+        }
         let (one, one_end) = row_at(above, y);
         let (other, other_end) = row_at(below, y);
         let bottom = lesser(one_end, other_end);

@@ -17,14 +17,14 @@ pub record Sunk : Type 0 where
 abbrev pub GainsAll : Sunk → List ℕ → Type 0
 GainsAll sunk bytes = Appends sunk.held sunk.holds bytes
 
--- its count rose, and it gained a front of the bytes
+-- its count rose, and it gained a prefix of the bytes
 pub record GainsFront (sunk : Sunk) (bytes : List ℕ) : Type 0 where
   pub rose : Rose sunk.before sunk.now
   pub taken : ℕ
   pub within : taken ≤ length bytes
   pub gained : Appends sunk.held sunk.holds (take taken bytes)
 
--- it gained all the bytes, or its count rose and it gained a front of them
+-- it gained all the bytes, or its count rose and it gained a prefix of them
 abbrev pub Gains : Sunk → List ℕ → Type 0
 Gains sunk bytes = GainsAll sunk bytes ⊎ GainsFront sunk bytes
 

@@ -10,6 +10,7 @@ use Rattle.std.proofs.Math.ListN.{get_or-append}
 use Rattle.std.proofs.Math.Seq.{get_or-append_right}
 use Rattle.dri_model.proofs.Spelling.{append_same}
 use Rattle.dri_base.specs.Ranges.{IsRegionSize}
+use Rattle.dri_base.proofs.RegionSizes.{region_size_tested}
 use Rattle.dri_base.specs.declared.texture.TexRegion.{TexRegion}
 use Rattle.dri_base.specs.Limits.{word_end}
 use Rattle.dri_model.specs.Counting.{any_from, least}
@@ -34,7 +35,7 @@ any_fits : (v : ℕ) → v < word_end → fits (number Any) v ≡ true
 any_fits v s = rw (lt-ltb v word_end s) refl
 
 size_fits : (v : ℕ) → v < word_end → IsRegionSize v → fits (number RegionSize) v ≡ true
-size_fits v s sized = rw (lt-ltb v word_end s, sized) refl
+size_fits v s sized = rw (lt-ltb v word_end s, region_size_tested v sized) refl
 
 -- the entries of a list of regions
 least_most : (p : ℕ → Bool) (n : ℕ) → least p n ≤ n

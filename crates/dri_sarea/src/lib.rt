@@ -12,4 +12,5 @@ mod write;
 
 pub use drawable::Drawable;
 pub use fault::{BadSarea, SareaFault};
+pub use layout::DRAWABLE_COUNT;
 pub use sarea::{Sarea, rows_follow_on};

@@ -6,7 +6,8 @@ use Rattle.std.proofs.lemmas.List.{append-nil, take_more}
 use Rattle.std.proofs.lemmas.Grind.{flat_map-append}
 use Rattle.dri_base.specs.declared.scene.Scene.{Scene}
 use Rattle.dri_base.specs.declared.scene.ClientScript.{ClientScript}
-use Rattle.dri_scene.specs.Texts.{Adds, line_bytes, block_lines, end_words, head_lines, lines_behind_windows, client_lines, change_words, item_words, window_words, scene_lines, scene_text}
+use Rattle.dri_scene.specs.Texts.{Adds, block_lines, end_words, head_lines, lines_behind_windows, client_lines, change_words, item_words, window_words, scene_lines, scene_text}
+use Rattle.dri_words.specs.Lines.{line_bytes}
 
 -- a piece, and then another
 pub joined : {t u v a b : List ℕ} → Adds t a u → Adds u b v → Adds t (a ++ b) v

@@ -1,11 +1,10 @@
 -- Each printed line has its form, and the form its line.
-use Rattle.std.proofs.Common.{◌≡◌, ℕ, zero, suc, ◌+◌, ◌-◌, ◌*◌, ◌^◌, ◌%◌, ◌<◌, ◌≤◌, Bool, true, false, List, [], ◌∷◌, ◌++◌, length, Some, None, Option, ℤ, pos, neg_ℤ, refl, sym, ap, ◌∙◌, subst, codes, ◌==◌, if◌then◌else◌, eq-eqb, mul-le-mul, arith}
+use Rattle.std.proofs.Common.{◌≡◌, ℕ, zero, suc, ◌+◌, ◌*◌, ◌%◌, ◌<◌, ◌≤◌, Bool, true, false, List, [], ◌∷◌, ◌++◌, length, Some, None, Option, ℤ, pos, neg_ℤ, refl, sym, ap, ◌∙◌, codes, ◌==◌, if◌then◌else◌, eq-eqb, mul-le-mul, arith}
 use Rattle.std.specs.List.{All, flat_map}
 use Rattle.std.specs.Str.{bytes_eq}
 use Rattle.std.specs.Fmt.{decimal, signed_decimal}
 use Rattle.std.proofs.lemmas.Bool.{ne_eqb}
 use Rattle.std.proofs.lemmas.Fmt.{decimal_by_steps}
-use Rattle.dri_base.proofs.RegionSizes.{region_size_within}
 use Rattle.dri_base.specs.declared.colour.Rgb.{Rgb}
 use Rattle.dri_base.specs.declared.colour.Rgba.{Rgba}
 use Rattle.dri_base.specs.declared.command.Change.{Change}
@@ -33,8 +32,8 @@ use Rattle.dri_base.specs.declared.texture.TexFormat.{TexFormat}
 use Rattle.dri_base.specs.declared.texture.TexFormat.TheVariants as Format_is
 use Rattle.dri_base.specs.declared.texture.Texture.{Texture}
 use Rattle.dri_base.specs.Ranges.{IsWithin, IsSide, IsPlace, IsRegionSize, WindowInRange, TextureInRange, TriangleInRange, VertexInRange, ScissorInRange, IsVertexPlace}
-use Rattle.dri_base.specs.Scenes.{texel_bytes}
-use Rattle.dri_base.proofs.RegionSizes.{region_size_within}
+use Rattle.dri_base.specs.Scenes.{named_by, texel_bytes}
+use Rattle.dri_base.proofs.RegionSizes.{region_size_tested, region_size_within}
 use Rattle.dri_words.specs.Ranges.{signed_within}
 use Rattle.dri_words.specs.Words.{◌>>=◌, number_at, colour_at, colour_alpha_at}
 use Rattle.dri_scene.specs.declared.form.CommandForm.{CommandForm}
@@ -52,13 +51,13 @@ use Rattle.dri_scene.specs.declared.line.Line.{Line}
 use Rattle.dri_scene.specs.declared.line.Line.TheVariants as lines
 use Rattle.dri_scene.specs.Forms.{number_in, is_image, title_of, screen_of, heap_of, mapped_of, window_of, client_of, format_of, texture_of, shade_of, depth_func_of, switch_of, blend_of, tex_mode_of, wrap_of, plain_of, bind_of, corners_of, scissor_of, setting_of, set_of, clear_of, corner_at, triangle_of, plain_change_of, move_of, resize_of, item_in, item_of, change_of, command_of, block_of, head_of, form_of}
 use Rattle.dri_scene.specs.Lines.{screen_in, heap_in, window_in, client_in, texture_in, scissor_in, setting_in, corner_in, triangle_in, command_in, move_in, resize_in, change_in, line_in}
-use Rattle.dri_scene.specs.Readings.{window_changed}
 use Rattle.dri_scene.specs.Shapes.{IsChangeRanged}
 use Rattle.dri_scene.specs.Stored.{IsColour, IsColourAlpha, IsCorner, IsStoredCommand, IsStoredTexture}
 use Rattle.dri_scene.specs.Texts.{colour_word, colour_alpha_word, mapped_word, format_word, shade_word, depth_func_word, switch_word, blend_word, tex_mode_word, wrap_word, setting_words, corner_words, command_words, window_words, texture_words, change_words, item_words, hex}
-use Rattle.dri_scene.proofs.Splitting.{split_last}
-use Rattle.dri_scene.proofs.Written.{unsigned_read, number_there}
-use Rattle.dri_scene.proofs.PrintedWords.{signed_back, signed_kept, kept, decimal_word, colour_read, colour_alpha_read, image_digits, image_size}
+use Rattle.dri_words.proofs.Splitting.{split_last}
+use Rattle.dri_words.proofs.Written.{unsigned_read, number_there}
+use Rattle.dri_words.proofs.PrintedNumbers.{decimal_word, kept}
+use Rattle.dri_scene.proofs.PrintedWords.{signed_back, signed_kept, colour_read, colour_alpha_read, image_digits, image_size}
 use Rattle.dri_scene.specs.Lines.{item_in as item_line_in}
 
 -- a word whose first byte is below the letters
@@ -146,7 +145,7 @@ heap_read n size few sized =
     let is = region_size_within size sized in
     record {
       is = rw (few_there 64 n (decimal size ∷ []) (omega arith) few.1, few_there 65536 size [] (omega arith) is.1) refl;
-      ranged = rw (kept 1 64 n few.0 few.1, kept 256 65536 size is.0 is.1, sized) refl;
+      ranged = rw (kept 1 64 n few.0 few.1, kept 256 65536 size is.0 is.1, region_size_tested size sized) refl;
     }
 
 -- a client's head
@@ -350,7 +349,7 @@ written_change (Change_is.Raise w) = changes.Raise (pos w)
 written_change (Change_is.Lower w) = changes.Lower (pos w)
 
 -- a change
-pub change_read : (c : Change) → IsWithin 1 64 (window_changed c) → IsChangeRanged c → IsRead (change_words c) (forms.Change (written_change c)) (lines.Change c)
+pub change_read : (c : Change) → IsWithin 1 64 (named_by c) → IsChangeRanged c → IsRead (change_words c) (forms.Change (written_change c)) (lines.Change c)
 unfolding form_of head_of block_of command_of change_of plain_change_of move_of resize_of line_in change_in move_in resize_in
 change_read (Change_is.Map w) there ok = record { is = rw (few_there 64 w [] (omega arith) there.1) refl; ranged = rw (kept 1 64 w there.0 there.1) refl }
 change_read (Change_is.Unmap w) there ok = record { is = rw (few_there 64 w [] (omega arith) there.1) refl; ranged = rw (kept 1 64 w there.0 there.1) refl }

@@ -1,41 +1,22 @@
 -- Each printed word is a word, and is read again.
-use Rattle.std.proofs.Common.{◌≡◌, ℕ, zero, suc, ◌+◌, ◌*◌, ◌/◌, ◌%◌, ◌^◌, ◌<◌, ◌≤◌, Bool, true, false, List, [], ◌∷◌, ◌++◌, length, Some, ℤ, pos, negsuc, neg_ℤ, ◌≤ℤ◌, refl, ap, ◌&&◌, nat_lt, arith}
+use Rattle.std.proofs.Common.{◌≡◌, ℕ, zero, suc, ◌+◌, ◌*◌, ◌/◌, ◌%◌, ◌<◌, ◌≤◌, Bool, true, false, List, [], ◌∷◌, ◌++◌, length, Some, ℤ, pos, negsuc, neg_ℤ, ◌≤ℤ◌, refl, ap, nat_lt, arith}
 use Rattle.std.specs.List.{All, list_all, flat_map}
 use Rattle.std.proofs.lemmas.List.Elements.{All-head, All-tail}
-use Rattle.std.specs.Fmt.{decimal, signed_decimal}
+use Rattle.std.specs.Fmt.{signed_decimal}
 use lib.Dec.{T}
-use Rattle.std.proofs.lemmas.Bool.{lt-ltb, le-leb, leb-true}
+use Rattle.std.proofs.lemmas.Bool.{leb-true}
 use Rattle.std.proofs.lemmas.Bool.Decides.{nat_tests}
-use Rattle.std.proofs.lemmas.Fmt.{decimal_by_steps}
 use Rattle.dri_base.specs.declared.colour.Rgb.{Rgb}
 use Rattle.dri_base.specs.declared.colour.Rgba.{Rgba}
 use Rattle.dri_words.specs.Words.{nibble_of, byte_of, colour_of, colour_alpha_of}
-use Rattle.dri_words.specs.Ranges.{within, signed_within}
+use Rattle.dri_words.specs.Ranges.{signed_within}
 use Rattle.dri_words.specs.Words.{signed_of}
-use Rattle.dri_scene.proofs.Written.{unsigned_read, negative_read}
+use Rattle.dri_words.proofs.Written.{unsigned_read, negative_read}
 use Rattle.dri_scene.specs.Forms.{is_hex_digit}
 use Rattle.dri_scene.specs.Readings.{digit_value, image_bytes}
 use Rattle.dri_scene.specs.Texts.{digit, hex, colour_word, colour_alpha_word}
-use Rattle.dri_scene.proofs.Splitting.{is_word}
-
-word_append : (xs ys : List ℕ) → is_word xs ≡ true → is_word ys ≡ true → is_word (xs ++ ys) ≡ true
-word_append [] ys first second = second
-word_append (x ∷ xs) ys first second = head (nat_lt 32 x) (is_word xs) (is_word (xs ++ ys)) first (λ is. word_append xs ys is second) where
-  head : (a b c : Bool) → (a && b) ≡ true → (b ≡ true → c ≡ true) → (a && c) ≡ true
-  head true b c is on = on is
-  head false b c is on = is
-
--- a number's digits
-pub decimal_word : (n : ℕ) → n < 2 ^ 64 → is_word (decimal n) ≡ true
-decimal_word n small = decimal_by_steps (λ m ds. is_word ds ≡ true) one more n small where
-  digit_word : (d : ℕ) → is_word ((48 + d) ∷ []) ≡ true
-  digit_word d = ap (λ t. t && true) (lt-ltb 32 (48 + d) (omega arith))
-
-  one : (m : ℕ) → m < 10 → is_word ((48 + m) ∷ []) ≡ true
-  one m below = digit_word m
-
-  more : (m : ℕ) (ds : List ℕ) → 10 ≤ m → is_word ds ≡ true → is_word (ds ++ ((48 + m % 10) ∷ [])) ≡ true
-  more m ds large before = word_append ds ((48 + m % 10) ∷ []) before (digit_word (m % 10))
+use Rattle.dri_words.proofs.Splitting.{is_word}
+use Rattle.dri_words.proofs.PrintedNumbers.{decimal_word, word_append}
 
 -- a number of either sign, within bounds
 pub record IsBetween (low high : ℕ) (z : ℤ) : Type 0 where
@@ -64,9 +45,6 @@ signed_back (negsuc m) low high small_low small_high is = let below = negative_b
 
 pub signed_kept : (z : ℤ) (low high : ℕ) → IsBetween low high z → signed_within (neg_ℤ (pos low)) (pos high) z ≡ Some z
 signed_kept z low high is = rw (holds_true _ is.above.le, holds_true _ is.below.le) refl
-
-pub kept : (low high n : ℕ) → low ≤ n → n ≤ high → within low high (pos n) ≡ Some n
-kept low high n above below = rw (le-leb low n above, le-leb n high below) refl
 
 -- a digit is read again
 digit_read : (n : ℕ) → n < 16 → nibble_of (digit n) ≡ Some n

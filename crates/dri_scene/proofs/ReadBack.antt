@@ -12,9 +12,11 @@ use Rattle.dri_scene.specs.declared.place.Place.{Place}
 use Rattle.dri_scene.specs.declared.place.Place.TheVariants as places
 use Rattle.dri_scene.specs.declared.reading.Reading.{Reading}
 use Rattle.dri_scene.specs.Places.{place_after, is_end}
-use Rattle.dri_scene.specs.Readings.{taken, after_words, after_bytes, is_passed_over, up_to_done, scene_of, opening}
-use Rattle.dri_scene.specs.Texts.{scene_lines, scene_text, line_bytes}
-use Rattle.dri_scene.proofs.Splitting.{is_printed, spaced, split_words, split_lines}
+use Rattle.dri_scene.specs.Readings.{taken, after_words, after_bytes, up_to_done, scene_of, opening}
+use Rattle.dri_words.specs.Lines.{is_passed_over}
+use Rattle.dri_scene.specs.Texts.{scene_lines, scene_text}
+use Rattle.dri_words.specs.Lines.{line_bytes}
+use Rattle.dri_words.proofs.Splitting.{is_printed, spaced, split_words, split_lines}
 use Rattle.dri_scene.proofs.PrintedLines.{IsRead, done_read}
 
 -- a line whose words are printed, and which isn't passed over

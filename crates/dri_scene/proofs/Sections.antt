@@ -42,15 +42,17 @@ use Rattle.dri_base.specs.declared.state.TexMode.{TexMode}
 use Rattle.dri_base.specs.declared.state.TexMode.TheVariants as Mode_is
 use Rattle.dri_base.specs.declared.state.Wrap.{Wrap}
 use Rattle.dri_base.specs.declared.state.Wrap.TheVariants as Wrap_is
-use Rattle.dri_base.specs.Scenes.{kills_in}
-use Rattle.dri_scene.specs.Readings.{taken, after_words, is_passed_over, scene_of, with_command, names_textures, with_client, with_end, is_owner, with_change, window_changed, with_item, names_client, kills_again, opening, no_script, has_window, with_window, with_texture, with_screen, with_heap}
+use Rattle.dri_base.specs.Scenes.{kills_in, named_by}
+use Rattle.dri_scene.specs.Readings.{taken, after_words, scene_of, with_command, names_textures, with_client, with_end, is_owner, with_change, with_item, names_client, kills_again, opening, no_script, has_window, with_window, with_texture, with_screen, with_heap}
+use Rattle.dri_words.specs.Lines.{is_passed_over}
 use Rattle.dri_scene.specs.Shapes.{IsChangeRanged}
 use Rattle.dri_scene.specs.Stored.{IsCorner, IsColour, IsStored, IsStoredTexture, IsStoredClient, IsStoredCommand}
 use Rattle.dri_scene.specs.Texts.{scene_lines, scene_text, head_lines, screen_words, window_words, texture_words, command_words, setting_words, corner_words, change_words, item_words, client_lines, end_words, block_lines, shade_word, depth_func_word, switch_word, blend_word, tex_mode_word, wrap_word, mapped_word, format_word, hex}
 use Rattle.dri_scene.proofs.Numbers.{found_among, is_found, not_found}
-use Rattle.dri_scene.proofs.Splitting.{is_word}
-use Rattle.dri_scene.proofs.Written.{first_above}
-use Rattle.dri_scene.proofs.PrintedWords.{decimal_word, signed_word, colour_is_word, colour_alpha_is_word, image_is_word, image_back, image_size}
+use Rattle.dri_words.proofs.Splitting.{is_word}
+use Rattle.dri_words.proofs.Written.{first_above}
+use Rattle.dri_words.proofs.PrintedNumbers.{decimal_word}
+use Rattle.dri_scene.proofs.PrintedWords.{signed_word, colour_is_word, colour_alpha_is_word, image_is_word, image_back, image_size}
 use Rattle.dri_base.proofs.RegionSizes.{region_size_within}
 use Rattle.dri_scene.proofs.PrintedLines.{IsWritable, IsWritableCommand, written_command, command_read, client_read, end_read, change_read, item_read, server_read, turns_read, IsNamed, title_read, screen_read, heap_read, window_read, texture_read}
 use Rattle.dri_scene.proofs.ReadBack.{IsPlain, Leads_to, leads_on, spelled, stepped}
@@ -429,7 +431,7 @@ clients_lead s p done (c ∷ cs) n client texture between windows range stored a
 abbrev pub with_changes : Reading → Place → List Change → Reading
 with_changes r p cs = record r { place = p; scene = record r.scene { changes = cs } }
 
-change_plain : (c : Change) → IsWithin 1 64 (window_changed c) → IsChangeRanged c → IsPlain (change_words c)
+change_plain : (c : Change) → IsWithin 1 64 (named_by c) → IsChangeRanged c → IsPlain (change_words c)
 change_plain (Change_is.Map w) there ok = record { printed = rw (few 64 w (omega arith) there.1) refl; kept = refl }
 change_plain (Change_is.Unmap w) there ok = record { printed = rw (few 64 w (omega arith) there.1) refl; kept = refl }
 change_plain (Change_is.Move w x y) there ok = record { printed = rw (few 64 w (omega arith) there.1, place_word x ok.0, place_word y ok.1) refl; kept = refl }
@@ -445,7 +447,7 @@ window_within (w ∷ ws) n (suc k) range below at = window_within ws n k (All-ta
 
 -- what a change in range says
 record IsGood (ws : List Window) (c : Change) : Type 0 where
-  there : Contains (window_numbers ws) (window_changed c)
+  there : Contains (window_numbers ws) (named_by c)
   ranged : IsChangeRanged c
 
 good : (ws : List Window) (c : Change) → ChangeInRange (window_numbers ws) c → IsGood ws c
@@ -461,13 +463,13 @@ unfolding place_after taken with_change
 changes_lead r done [] windows range small = ap (with_changes r places.Changes) (sym (append-nil done))
 changes_lead r done (c ∷ cs) windows range small =
     let ok = good r.scene.windows c (All-head (ChangeInRange (window_numbers r.scene.windows)) c cs range) in
-    let there = window_within r.scene.windows (window_changed c) ok.there.0 windows ok.there.1 ok.there.2 in
+    let there = window_within r.scene.windows (named_by c) ok.there.0 windows ok.there.1 ok.there.2 in
     let next = with_changes r places.Changes (done ++ c ∷ []) in
     let along = append_assoc done (c ∷ []) cs in
     let later = changes_lead r (done ++ c ∷ []) cs windows (All-tail (ChangeInRange (window_numbers r.scene.windows)) c cs range) (simp length-append (omega (arith, small))) in (
       next,
       change_plain c there ok.ranged,
-      stepped (with_changes r places.Changes done) (change_words c) _ (lines.Change c) places.Changes next (change_read c there ok.ranged) refl (rw (is_found (λ w. w.number) (window_changed c) r.scene.windows ok.there, lt-leb 4096 (length done) (omega (arith, small))) refl),
+      stepped (with_changes r places.Changes done) (change_words c) _ (lines.Change c) places.Changes next (change_read c there ok.ranged) refl (rw (is_found (λ w. w.number) (named_by c) r.scene.windows ok.there, lt-leb 4096 (length done) (omega (arith, small))) refl),
       refl,
       subst (λ (x : List Change). Leads_to next (map change_words cs) (with_changes r places.Changes x)) along later,
     )

@@ -1,5 +1,5 @@
 -- Each line that is allowed keeps a reading sound.
-use Rattle.std.proofs.Common.{◌≡◌, ◌≢◌, ◌<◌, ◌≤◌, ◌⊎◌, inl, inr, ℕ, zero, suc, ◌+◌, ◌*◌, ◌/◌, List, [], ◌∷◌, ◌++◌, length, Bool, true, false, not, ◌==◌, ◌||◌, Option, Some, None, Ok, refl, sym, ap, ◌∙◌, subst, arith, ℤ, nat_le, nat_lt}
+use Rattle.std.proofs.Common.{◌≡◌, ◌≢◌, ◌<◌, ◌≤◌, ◌⊎◌, inl, inr, ℕ, zero, suc, ◌+◌, ◌*◌, ◌/◌, List, [], ◌∷◌, ◌++◌, length, true, false, not, ◌==◌, Option, Some, None, Ok, refl, sym, ap, ◌∙◌, subst, arith, ℤ, nat_le, nat_lt}
 use Rattle.std.specs.List.{All, AllPairs, list_any}
 use Rattle.std.proofs.lemmas.Bool.{false≢true, leb-false, ltb-false, eqb-true, not-false}
 use Rattle.std.proofs.lemmas.Bool.Decides.{eqb_tells}
@@ -14,7 +14,6 @@ use Rattle.dri_base.specs.declared.command.Command.TheVariants as Command_is
 use Rattle.dri_base.specs.declared.command.Item.{Item}
 use Rattle.dri_base.specs.declared.command.Item.TheVariants as Item_is
 use Rattle.dri_base.specs.declared.scene.ClientScript.{ClientScript}
-use Rattle.dri_base.specs.declared.scene.Scene.{Scene}
 use Rattle.dri_base.specs.declared.scene.Window.{Window}
 use Rattle.dri_base.specs.declared.texture.TexShape.{TexShape}
 use Rattle.dri_base.specs.declared.texture.Texture.{Texture}
@@ -31,18 +30,18 @@ use Rattle.dri_scene.specs.declared.form.ItemForm.{ItemForm}
 use Rattle.dri_base.specs.declared.state.Setting.{Setting}
 use Rattle.dri_base.specs.declared.state.Setting.TheVariants as Setting_is
 use Rattle.std.proofs.Math.Nat.{mul-div_cancel_left}
+use Rattle.std.proofs.lemmas.Option.{same_Some}
 use Rattle.dri_scene.specs.declared.place.Place.{Place}
 use Rattle.dri_scene.specs.declared.place.Place.TheVariants as places
 use Rattle.dri_scene.specs.declared.reading.Reading.{Reading}
-use Rattle.dri_base.specs.Ranges.{is_region_size}
 use Rattle.dri_scene.specs.Places.{place_after, place_behind_clients, place_in_script, is_in_client, is_end}
-use Rattle.dri_scene.specs.Readings.{with_window, has_window, with_client, owns, is_owner, with_texture, image_bytes, with_command, names_textures, with_change, window_changed, with_item, names_client, kills_again, with_end, with_screen, with_heap, no_script, opening, taken}
+use Rattle.dri_scene.specs.Readings.{with_window, has_window, with_client, owns, is_owner, with_texture, image_bytes, with_command, names_textures, with_change, with_item, names_client, kills_again, with_end, with_screen, with_heap, no_script, opening, taken}
 use Rattle.dri_scene.specs.Shapes.{IsLineOf, IsCommandOf, IsSettingRanged, IsChangeRanged, IsTextureRanged}
 use Rattle.dri_scene.proofs.Numbers.{is_listed, not_among, apart_push, rising_push, below_more, most_push, passed, ok_same}
 use Rattle.dri_words.specs.declared.reason.Reason.TheVariants as reasons
 use Rattle.dri_scene.specs.declared.line.Line.{Line}
 use Rattle.dri_scene.specs.declared.line.Line.TheVariants as lines
-use Rattle.dri_base.specs.Scenes.{kills_in, texel_bytes}
+use Rattle.dri_base.specs.Scenes.{kills_in, named_by, texel_bytes}
 use Rattle.dri_scene.specs.Soundness.{IsEarly, IsMiddle, HeadAt, IsBlock, BlockAt, IsSoFar, IsSound}
 
 -- the place says nothing of what was read
@@ -51,9 +50,6 @@ so_far_at q r before = record { windows = before.windows; clients = before.clien
 
 block_of : (q : Place) (r : Reading) → IsBlock r → IsBlock (record r { place = q })
 block_of q r block = record { client = block.client; above = block.above; last = block.last; textures = block.textures }
-
-some_same : {A : Type 0} (a b : A) → Some a ≡ Some b → a ≡ b
-some_same a b same = cc
 
 -- where a window's line is allowed, and where it leads
 window_at : (p q : Place) (f : WindowForm) → place_after p (forms.Window f) ≡ Some q → (p ≡ places.Windows) × (q ≡ places.Windows)
@@ -241,7 +237,7 @@ command_ranged ts form c named of = absurd of
 -- commands without a die, and one more
 dies_last : (cs : List Command) (c : Command) → All (λ b. b ≢ Command_is.Die) cs → DiesLast (cs ++ c ∷ [])
 dies_last [] c alive k below = absurd (omega (arith, below))
-dies_last (b ∷ cs) c alive zero below = λ is. All-head (λ a. a ≢ Command_is.Die) b cs alive (some_same b Command_is.Die is)
+dies_last (b ∷ cs) c alive zero below = λ is. All-head (λ a. a ≢ Command_is.Die) b cs alive (same_Some b Command_is.Die is)
 dies_last (b ∷ cs) c alive (suc k) below = dies_last cs c (All-tail (λ a. a ≢ Command_is.Die) b cs alive) k (omega (arith, below))
 
 -- a command more
@@ -333,7 +329,7 @@ item_at places.Turns q form at = (refl, cc)
 item_at p q form at = absurd (cc)
 
 -- a change whose window is there
-change_ranged : (ws : List Window) (c : Change) → has_window (window_changed c) ws ≡ true → IsChangeRanged c → ChangeInRange (window_numbers ws) c
+change_ranged : (ws : List Window) (c : Change) → has_window (named_by c) ws ≡ true → IsChangeRanged c → ChangeInRange (window_numbers ws) c
 change_ranged ws (Change_is.Map w) named range = is_listed (λ v. v.number) w ws named
 change_ranged ws (Change_is.Unmap w) named range = is_listed (λ v. v.number) w ws named
 change_ranged ws (Change_is.Move w x y) named range = (is_listed (λ v. v.number) w ws named, range.0, range.1)
@@ -347,7 +343,7 @@ unfolding with_change
 changed r c next at sound range is =
     let s = r.scene in
     let before = sound.so_far in
-    let first = passed (not (has_window (window_changed c) s.windows)) reasons.Unknown _ next is in
+    let first = passed (not (has_window (named_by c) s.windows)) reasons.Unknown _ next is in
     let second = passed (nat_le 4096 (length s.changes)) reasons.Limit _ next first.1 in
     let cs = s.changes ++ c ∷ [] in
     let more : Reading = record r { scene = record s { changes = cs } } in
@@ -472,7 +468,7 @@ screened r w h root early before none wide high = record {
 }
 
 -- the heap's numbers
-heaped : (r : Reading) (n z : ℕ) → IsEarly r.scene → IsSoFar r → r.script.commands ≡ [] → IsSide r.scene.width → IsSide r.scene.height → IsWithin 1 64 n → is_region_size z ≡ true → IsSound (record (with_heap r n z) { place = places.Windows })
+heaped : (r : Reading) (n z : ℕ) → IsEarly r.scene → IsSoFar r → r.script.commands ≡ [] → IsSide r.scene.width → IsSide r.scene.height → IsWithin 1 64 n → IsRegionSize z → IsSound (record (with_heap r n z) { place = places.Windows })
 heaped r n z early before none wide high count size = record {
   so_far = record { windows = before.windows; clients = subst (ClientsInRange r.scene.windows (n * z)) (sym early.clients) (no_clients r.scene.windows (n * z)); most = before.most; counted = before.counted; few = before.few; changes = before.changes; turns = before.turns };
   head = (record { clients = early.clients; changes = early.changes; turns = early.turns }, record { wide = wide; high = high; regions = count; sized = size });

@@ -1,4 +1,5 @@
 pub mod Forms
+pub mod Generator
 pub mod Lines
 pub mod Places
 pub mod Readings

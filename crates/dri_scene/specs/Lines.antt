@@ -1,5 +1,5 @@
 -- A line: a form whose numbers are in their ranges.
-use Rattle.std.specs.Prelude.{ℕ, ◌*◌, ℤ, pos, neg_ℤ, length, Bool, ◌==◌, ◌||◌, if◌then◌else◌, Some, None}
+use Rattle.std.specs.Prelude.{◌*◌, ℤ, pos, neg_ℤ, length, ◌==◌, if◌then◌else◌, Some, None}
 use Rattle.std.specs.declared.option.Option.{Option}
 use Rattle.dri_base.specs.declared.colour.Rgb.{Rgb}
 use Rattle.dri_base.specs.declared.command.Change.{Change}
@@ -12,6 +12,7 @@ use Rattle.dri_base.specs.declared.shape.ClipRect.{ClipRect}
 use Rattle.dri_base.specs.declared.shape.Vertex.{Vertex}
 use Rattle.dri_base.specs.declared.state.Setting.{Setting}
 use Rattle.dri_base.specs.declared.state.Setting.TheVariants as Setting_is
+use Rattle.dri_base.specs.Limits.{most_scissor, most_side}
 use Rattle.dri_base.specs.Ranges.{is_region_size}
 use Rattle.dri_base.specs.Scenes.{texel_bytes}
 use Rattle.dri_scene.specs.declared.form.WindowForm.{WindowForm}
@@ -36,8 +37,8 @@ use Rattle.dri_words.specs.Ranges.{within, signed_within}
 -- screen: sides 1 to 1,024
 unfoldable pub screen_in : ℤ → ℤ → Rgb → Option Line
 screen_in w h root = do
-  width ← within 1 1024 w
-  height ← within 1 1024 h
+  width ← within 1 most_side w
+  height ← within 1 most_side h
   Some (lines.Screen width height root)
 
 -- heap: 1 to 64 regions of a size
@@ -51,10 +52,10 @@ heap_in n s = do
 unfoldable pub window_in : WindowForm → Option Line
 window_in w = do
   number ← within 1 64 w.number
-  x ← signed_within (neg_ℤ (pos 1024)) (pos 1024) w.x
-  y ← signed_within (neg_ℤ (pos 1024)) (pos 1024) w.y
-  width ← within 1 1024 w.width
-  height ← within 1 1024 w.height
+  x ← signed_within (neg_ℤ (pos most_side)) (pos most_side) w.x
+  y ← signed_within (neg_ℤ (pos most_side)) (pos most_side) w.y
+  width ← within 1 most_side w.width
+  height ← within 1 most_side w.height
   owner ← within 0 32 w.owner
   Some (lines.Window (record { number = number; x = x; y = y; width = width; height = height; background = w.background; owner = owner; mapped = w.mapped }))
 
@@ -76,10 +77,10 @@ texture_in t = do
 -- a scissor: four numbers 0 to 2,048
 unfoldable pub scissor_in : ScissorForm → Option ClipRect
 scissor_in s = do
-  x1 ← within 0 2048 s.x1
-  y1 ← within 0 2048 s.y1
-  x2 ← within 0 2048 s.x2
-  y2 ← within 0 2048 s.y2
+  x1 ← within 0 most_scissor s.x1
+  y1 ← within 0 most_scissor s.y1
+  x2 ← within 0 most_scissor s.x2
+  y2 ← within 0 most_scissor s.y2
   Some record { x1 = x1; y1 = y1; x2 = x2; y2 = y2 }
 
 -- a setting: a texture's number 1 to 64
@@ -126,16 +127,16 @@ command_in commands.Die = Some Command_is.Die
 unfoldable pub move_in : ℤ → ℤ → ℤ → Option Change
 move_in w across down = do
   window ← within 1 64 w
-  x ← signed_within (neg_ℤ (pos 1024)) (pos 1024) across
-  y ← signed_within (neg_ℤ (pos 1024)) (pos 1024) down
+  x ← signed_within (neg_ℤ (pos most_side)) (pos most_side) across
+  y ← signed_within (neg_ℤ (pos most_side)) (pos most_side) down
   Some (Change_is.Move window x y)
 
 -- a resize: a window 1 to 64, sides 1 to 1,024
 unfoldable pub resize_in : ℤ → ℤ → ℤ → Option Change
 resize_in w across down = do
   window ← within 1 64 w
-  width ← within 1 1024 across
-  height ← within 1 1024 down
+  width ← within 1 most_side across
+  height ← within 1 most_side down
   Some (Change_is.Resize window width height)
 
 -- a change: a window 1 to 64

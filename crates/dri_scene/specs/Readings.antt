@@ -4,7 +4,6 @@ use Rattle.std.specs.List.{list_any}
 use Rattle.std.specs.declared.option.Option.{Option}
 use Rattle.dri_base.specs.declared.colour.Rgb.{Rgb}
 use Rattle.dri_base.specs.declared.command.Change.{Change}
-use Rattle.dri_base.specs.declared.command.Change.TheVariants as Change_is
 use Rattle.dri_base.specs.declared.command.Command.{Command}
 use Rattle.dri_base.specs.declared.command.Command.TheVariants as Command_is
 use Rattle.dri_base.specs.declared.command.Item.{Item}
@@ -16,10 +15,12 @@ use Rattle.dri_base.specs.declared.state.Setting.TheVariants as Setting_is
 use Rattle.dri_base.specs.declared.texture.Texture.{Texture}
 use Rattle.dri_base.specs.declared.texture.TexShape.{TexShape}
 use Rattle.dri_base.specs.Ranges.{heap_bytes, owner_of}
-use Rattle.dri_base.specs.Scenes.{kills_in}
+use Rattle.dri_base.specs.Scenes.{kills_in, named_by}
 use Rattle.dri_base.specs.Limits.{most_changes, most_commands, most_items}
 use Rattle.dri_words.specs.declared.reason.Reason.{Reason}
 use Rattle.dri_words.specs.declared.reason.Reason.TheVariants as reasons
+pub use Rattle.dri_words.specs.declared.lines.Refusal.{Refusal}
+use Rattle.dri_words.specs.Lines.{◌>>=◌, at_line, ends, is_passed_over, or_else}
 use Rattle.dri_words.specs.Parts.{parts_at, is_nil}
 use Rattle.dri_scene.specs.declared.fault.SceneFault.{SceneFault}
 use Rattle.dri_scene.specs.declared.fault.SceneFault.TheVariants as faults
@@ -34,17 +35,6 @@ use Rattle.dri_scene.specs.declared.reading.Reading.{Reading}
 use Rattle.dri_scene.specs.Forms.{form_of}
 use Rattle.dri_scene.specs.Lines.{line_in}
 use Rattle.dri_scene.specs.Places.{place_after, is_end, is_in_client}
-
--- the next step, where this one wasn't refused
-infixl 10 ◌>>=◌
-abbrev pub ◌>>=◌ : {A B E : Type 0} → Result A E → (A → Result B E) → Result B E
-(Ok x) >>= f = f x
-(Err e) >>= f = Err e
-
--- the value, where it is there; else the reason
-abbrev pub or_else : {A : Type 0} → Reason → Option A → Result A Reason
-or_else reason None = Err reason
-or_else reason (Some x) = Ok x
 
 -- a block without lines
 abbrev pub no_script : ClientScript
@@ -133,19 +123,10 @@ with_command r command =
     else if nat_le most_commands r.commands then Err reasons.Limit
     else Ok (record r { script = record r.script { commands = r.script.commands ++ command ∷ [] }; commands = r.commands + 1 })
 
--- the window that a change names
-abbrev pub window_changed : Change → ℕ
-window_changed (Change_is.Map w) = w
-window_changed (Change_is.Unmap w) = w
-window_changed (Change_is.Move w x y) = w
-window_changed (Change_is.Resize w width height) = w
-window_changed (Change_is.Raise w) = w
-window_changed (Change_is.Lower w) = w
-
 -- a change more; unknown: its window isn't there; limit: it is the 4,097th
 unfoldable pub with_change : Reading → Change → Result Reading Reason
 with_change r change =
-    if not (has_window (window_changed change) r.scene.windows) then Err reasons.Unknown
+    if not (has_window (named_by change) r.scene.windows) then Err reasons.Unknown
     else if nat_le most_changes (length r.scene.changes) then Err reasons.Limit
     else Ok (record r { scene = record r.scene { changes = r.scene.changes ++ change ∷ [] } })
 
@@ -204,24 +185,9 @@ after_words r words = do
   next ← taken r line
   Ok (record next { place = place })
 
--- a line that is empty or begins with # is passed over
-abbrev pub is_passed_over : List ℕ → Bool
-is_passed_over [] = true
-is_passed_over (b ∷ bs) = b == 35
-
 -- what a line's bytes lead to
 unfoldable pub after_bytes : Reading → List ℕ → Result Reading Reason
 after_bytes r bytes = if is_passed_over bytes then Ok r else after_words r (parts_at 32 bytes)
-
--- why a text is refused: the first line that is refused, counted from 1, and the first reason
-pub record Refusal : Type 0 where
-  pub line : ℕ
-  pub reason : Reason
-
--- a refusal of line n
-abbrev pub at_line : {A : Type 0} → ℕ → Result A Reason → Result A Refusal
-at_line n (Ok x) = Ok x
-at_line n (Err reason) = Err record { line = n; reason = reason }
 
 -- from line n at byte b on: the lines up to done. The last part, behind the last newline, is no line of the text
 abbrev pub up_to_done : ℕ → ℕ → Reading → List (List ℕ) → Result Begun Refusal
@@ -232,19 +198,6 @@ up_to_done n b r (line ∷ more) =
     if is_end next.place then Ok record { scene = next.scene; part = record { bytes = b + length line + 1; lines = n }; rest = more }
     else up_to_done (n + 1) (b + length line + 1) next more)
 
--- the scene, where from line n on stand only lines that are passed over, and nothing behind the last newline
-abbrev pub after_done : ℕ → Scene → List (List ℕ) → Result Scene Refusal
-after_done n scene [] = Err record { line = n; reason = reasons.Ended }
-after_done n scene (line ∷ more) =
-    if is_nil more then (if is_nil line then Ok scene else Err record { line = n; reason = reasons.Ended })
-    else if is_passed_over line then after_done (n + 1) scene more
-    else Err record { line = n; reason = reasons.Shape }
-
--- the bytes of these lines, with a newline behind each
-abbrev pub text_size : List (List ℕ) → ℕ
-text_size [] = 0
-text_size (line ∷ more) = length line + 1 + text_size more
-
 -- the lines of a text up to its done line
 abbrev pub begun : List ℕ → Result Begun Refusal
 begun bytes = up_to_done 1 0 opening (parts_at 10 bytes)
@@ -253,9 +206,12 @@ begun bytes = up_to_done 1 0 opening (parts_at 10 bytes)
 unfoldable pub part_of : List ℕ → Result (Scene × Part) Refusal
 part_of bytes = begun bytes >>= λ b. Ok (b.scene, b.part)
 
--- the scene that the bytes spell, or the first line that is refused
+-- the scene that the bytes spell, where the text ends behind it, or the first line that is refused
 unfoldable pub scene_of : List ℕ → Result Scene Refusal
-scene_of bytes = begun bytes >>= λ b. after_done (b.part.lines + 1) b.scene b.rest
+scene_of bytes = do
+  b ← begun bytes
+  end ← ends (b.part.lines + 1) b.rest
+  Ok b.scene
 
 -- a step on a reading leads to what the definition says, unless memory ran out
 abbrev pub Leads : {A : Type 0} → Result A Stop → Result Reading Reason → Reading → Type 0

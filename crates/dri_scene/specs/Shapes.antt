@@ -1,5 +1,5 @@
 -- What the ranges of a line say of it, in the words of a scene in range.
-use Rattle.std.specs.Prelude.{◌≡◌, ℕ, ◌*◌, List, length, true, Some}
+use Rattle.std.specs.Prelude.{◌≡◌, ℕ, ◌*◌, List, length, Some}
 use Rattle.dri_base.specs.declared.command.Change.{Change}
 use Rattle.dri_base.specs.declared.command.Change.TheVariants as Change_is
 use Rattle.dri_base.specs.declared.command.Command.{Command}
@@ -7,7 +7,7 @@ use Rattle.dri_base.specs.declared.command.Command.TheVariants as Command_is
 use Rattle.dri_base.specs.declared.state.Setting.{Setting}
 use Rattle.dri_base.specs.declared.state.Setting.TheVariants as Setting_is
 use Rattle.dri_base.specs.declared.texture.TexShape.{TexShape}
-use Rattle.dri_base.specs.Ranges.{IsWithin, IsSide, IsPlace, WindowInRange, TriangleInRange, ScissorInRange}
+use Rattle.dri_base.specs.Ranges.{IsWithin, IsSide, IsPlace, IsRegionSize, WindowInRange, TriangleInRange, ScissorInRange}
 use Rattle.dri_base.specs.Scenes.{texel_bytes}
 use Rattle.dri_scene.specs.declared.form.CommandForm.{CommandForm}
 use Rattle.dri_scene.specs.declared.form.CommandForm.TheVariants as commands
@@ -15,7 +15,6 @@ use Rattle.dri_scene.specs.declared.form.Form.{Form}
 use Rattle.dri_scene.specs.declared.form.Form.TheVariants as forms
 use Rattle.dri_scene.specs.declared.line.Line.{Line}
 use Rattle.dri_scene.specs.declared.line.Line.TheVariants as lines
-use Rattle.dri_base.specs.Ranges.{is_region_size}
 
 -- a scissor is in range
 abbrev pub IsSettingRanged : Setting → Type 0
@@ -49,7 +48,7 @@ pub record IsTextureRanged (number : ℕ) (shape : TexShape) (image : List ℕ) 
 abbrev pub IsLineOf : Form → Line → Type 0
 IsLineOf forms.Title lines.Title = Unit {0}
 IsLineOf (forms.Screen w h colour) (lines.Screen width height root) = IsSide width × IsSide height
-IsLineOf (forms.Heap n s) (lines.Heap regions size) = IsWithin 1 64 regions × (is_region_size size ≡ true)
+IsLineOf (forms.Heap n s) (lines.Heap regions size) = IsWithin 1 64 regions × IsRegionSize size
 IsLineOf (forms.Window form) (lines.Window window) = WindowInRange window
 IsLineOf (forms.Client c w) (lines.Client number window) = IsWithin 1 32 number
 IsLineOf (forms.Texture form) (lines.Texture number shape image) = IsTextureRanged number shape image

@@ -29,6 +29,7 @@ use Rattle.dri_base.specs.declared.state.Setting.TheVariants as Setting_is
 use Rattle.dri_base.specs.declared.texture.TexFormat.{TexFormat}
 use Rattle.dri_base.specs.declared.texture.TexFormat.TheVariants as Format_is
 use Rattle.dri_base.specs.declared.texture.Texture.{Texture}
+use Rattle.dri_words.specs.Lines.{line_bytes}
 
 -- a hexadecimal digit in lower case
 abbrev pub digit : ℕ → ℕ
@@ -175,16 +176,6 @@ scene_lines s = head_lines s ++ (map window_words s.windows ++ lines_behind_wind
 -- the text after is the text before and a piece more
 pub record Adds (before piece after : List ℕ) : Type 0 where
   pub is : after ≡ before ++ piece
-
--- words, each behind a space, and a newline
-abbrev pub words_bytes : List (List ℕ) → List ℕ
-words_bytes [] = 10 ∷ []
-words_bytes (word ∷ more) = 32 ∷ (word ++ words_bytes more)
-
--- a line: its words with one space between two, and a newline
-abbrev pub line_bytes : List (List ℕ) → List ℕ
-line_bytes [] = 10 ∷ []
-line_bytes (word ∷ more) = word ++ words_bytes more
 
 -- the text of a scene
 unfoldable pub scene_text : Scene → List ℕ

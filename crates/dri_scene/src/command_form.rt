@@ -115,17 +115,17 @@ fn plain_of(name: &[u8], word: &[u8]) -> Option<SettingForm>
     ensures { result ≡ plain_of name.now word.now }
 {
     if is_word(name, b"shade") {
-        Some(SettingForm::Shade(shade_of(word)?))
+        shade_of(word).map(SettingForm::Shade)
     } else if is_word(name, b"depth") {
-        Some(SettingForm::DepthFunc(depth_func_of(word)?))
+        depth_func_of(word).map(SettingForm::DepthFunc)
     } else if is_word(name, b"write") {
-        Some(SettingForm::DepthWrite(switch_of(word)?))
+        switch_of(word).map(SettingForm::DepthWrite)
     } else if is_word(name, b"blend") {
-        Some(SettingForm::Blend(blend_of(word)?))
+        blend_of(word).map(SettingForm::Blend)
     } else if is_word(name, b"texmode") {
-        Some(SettingForm::TexMode(tex_mode_of(word)?))
+        tex_mode_of(word).map(SettingForm::TexMode)
     } else if is_word(name, b"wrap") {
-        Some(SettingForm::Wrap(wrap_of(word)?))
+        wrap_of(word).map(SettingForm::Wrap)
     } else {
         None
     }

@@ -10,6 +10,7 @@ mod change_form;
 mod command_form;
 mod fault;
 mod form;
+mod generator;
 mod head_form;
 mod line;
 mod part;
@@ -20,5 +21,6 @@ mod reading;
 mod words;
 
 pub use fault::SceneFault;
+pub use generator::make_scene;
 pub use part::{Part, read_scene, read_scene_part};
 pub use print::print_scene;

@@ -14,10 +14,13 @@ use crate::form::{
     TextureForm, WindowForm,
 };
 use dri_base::{
-    Change, ClipRect, Command, Item, Rgb, Setting, TexFormat, TexShape, Triangle, Vertex, Window,
-    is_region_size,
+    Change, ClipRect, Command, Item, MOST_SCISSOR, MOST_SIDE, Rgb, Setting, TexFormat, TexShape,
+    Triangle, Vertex, Window, is_region_size,
 };
 use dri_words::{signed_within, within};
+
+/// How far a window's corner may lie from the screen's, across or down.
+const FARTHEST: i32 = MOST_SIDE as i32;
 
 /// A line of a scene.
 #[derive(Drop)]
@@ -57,8 +60,8 @@ fn screen_in<'a>(width: i64, height: i64, root: Rgb) -> Option<Line<'a>>
     ensures value { result ≡ screen_in width height root }
     ensures range { IfSome result (IsLineOf (forms.Screen width height root)) }
 {
-    let width = within(1, 1024, width)?;
-    let height = within(1, 1024, height)?;
+    let width = within(1, MOST_SIDE, width)?;
+    let height = within(1, MOST_SIDE, height)?;
     Some(Line::Screen {
         width,
         height,
@@ -91,10 +94,10 @@ fn window_in<'a>(form: &WindowForm) -> Option<Line<'a>>
     ensures range { IfSome result (IsLineOf (forms.Window form.now)) }
 {
     let number = within(1, 64, form.number)?;
-    let x = signed_within(-1024, 1024, form.x)?;
-    let y = signed_within(-1024, 1024, form.y)?;
-    let width = within(1, 1024, form.width)?;
-    let height = within(1, 1024, form.height)?;
+    let x = signed_within(-FARTHEST, FARTHEST, form.x)?;
+    let y = signed_within(-FARTHEST, FARTHEST, form.y)?;
+    let width = within(1, MOST_SIDE, form.width)?;
+    let height = within(1, MOST_SIDE, form.height)?;
     let owner = within(0, 32, form.owner)?;
     Some(Line::Window(Window {
         number,
@@ -171,10 +174,10 @@ fn scissor_in(form: &ScissorForm) -> Option<ClipRect>
     ensures value { result ≡ scissor_in form.now }
     ensures range { IfSome result ScissorInRange }
 {
-    let x1 = within(0, 2048, form.x1)?;
-    let y1 = within(0, 2048, form.y1)?;
-    let x2 = within(0, 2048, form.x2)?;
-    let y2 = within(0, 2048, form.y2)?;
+    let x1 = within(0, u32::from(MOST_SCISSOR), form.x1)?;
+    let y1 = within(0, u32::from(MOST_SCISSOR), form.y1)?;
+    let x2 = within(0, u32::from(MOST_SCISSOR), form.x2)?;
+    let y2 = within(0, u32::from(MOST_SCISSOR), form.y2)?;
     Some(ClipRect {
         x1: x1 as u16,
         y1: y1 as u16,
@@ -251,7 +254,7 @@ fn command_in(form: &CommandForm) -> Option<Command>
     ensures range { IfSome result (IsCommandOf form.now) }
 {
     match form {
-        CommandForm::Set(setting) => Some(Command::Set(setting_in(setting)?)),
+        CommandForm::Set(setting) => setting_in(setting).map(Command::Set),
         CommandForm::Clear { colour, depth } => Some(Command::Clear {
             colour: *colour,
             depth: small(*depth)?,
@@ -270,8 +273,8 @@ fn move_in(window: i64, x: i64, y: i64) -> Option<Change>
     ensures range { IfSome result IsChangeRanged }
 {
     let window = within(1, 64, window)?;
-    let x = signed_within(-1024, 1024, x)?;
-    let y = signed_within(-1024, 1024, y)?;
+    let x = signed_within(-FARTHEST, FARTHEST, x)?;
+    let y = signed_within(-FARTHEST, FARTHEST, y)?;
     Some(Change::Move { window, x, y })
 }
 
@@ -282,8 +285,8 @@ fn resize_in(window: i64, width: i64, height: i64) -> Option<Change>
     ensures range { IfSome result IsChangeRanged }
 {
     let window = within(1, 64, window)?;
-    let width = within(1, 1024, width)?;
-    let height = within(1, 1024, height)?;
+    let width = within(1, MOST_SIDE, width)?;
+    let height = within(1, MOST_SIDE, height)?;
     Some(Change::Resize {
         window,
         width,

@@ -2,15 +2,15 @@
 
 ghost use Rattle.std.specs.Prelude.{◌≡◌, ◌≤◌, ◌+◌, length, IfOk};
 ghost use Rattle.dri_base.specs.Ranges.{InRange};
-ghost use Rattle.dri_base.specs.Limits.{word_end};
 ghost use Rattle.dri_words.specs.Parts.{parts_at};
-ghost use Rattle.dri_scene.specs.Readings.{Gives, after_done, begun, fault_at, part_of, scene_of, text_size};
+ghost use Rattle.dri_scene.specs.Readings.{Gives, begun, fault_at, part_of, scene_of};
+ghost use Rattle.dri_words.specs.Lines.{text_size};
 
 use crate::fault::{SceneFault, Stop};
 use crate::place::is_end;
-use crate::reading::{after_bytes, is_passed_over, opening};
+use crate::reading::{after_bytes, opening};
 use dri_base::Scene;
-use dri_words::{Parts, Reason};
+use dri_words::{Parts, Reason, Refusal, to_end};
 use std::alloc::Global;
 
 /// How much of a text its scene takes: the bytes and the lines up to the `done` line and with it.
@@ -39,7 +39,7 @@ fn fault_at(line: u32, stop: Stop) -> SceneFault
 }
 
 /// Reads the lines up to the `done` line and with it.
-#[tactic(auto, using(crate::proofs::TextSizes::text_size_split, crate::proofs::SoundSteps::whole))]
+#[tactic(auto, using(dri_words::proofs::TextSizes::text_size_split, crate::proofs::SoundSteps::whole))]
 fn up_to_done<'a>(alloc: Global, bytes: &'a [u8]) -> Result<Begun<'a>, SceneFault>
     requires { length bytes.now ≤ 4294967294 }
     ensures value { Gives result (begun bytes.now) }
@@ -77,35 +77,6 @@ fn up_to_done<'a>(alloc: Global, bytes: &'a [u8]) -> Result<Begun<'a>, SceneFaul
     })
 }
 
-/// The scene, where nothing but lines that are passed over follows its `done` line. The first line that follows has the
-/// number `first`.
-fn after_done(scene: Scene, mut rest: Parts<'_>, first: u32) -> Result<Scene, SceneFault>
-    requires { first + text_size rest ≤ word_end }
-    ensures value { Gives result (after_done first scene rest.entry) }
-    ensures same { IfOk result (λ s. s ≡ scene) }
-{
-    let mut number = first;
-    while let Some(line) = rest.next() {
-        if rest.is_empty() {
-            if line.is_empty() {
-                return Ok(scene);
-            }
-            break;
-        }
-        if !is_passed_over(line) {
-            return Err(SceneFault::Refused {
-                line: number,
-                reason: Reason::Shape,
-            });
-        }
-        number += 1;
-    }
-    Err(SceneFault::Refused {
-        line: number,
-        reason: Reason::Ended,
-    })
-}
-
 /// The scene that the bytes spell, at most 4,294,967,294 of them. Nothing but lines that are passed over may follow its
 /// `done` line. It is refused exactly where the grammar has no such text, with the first line that is refused and the
 /// first reason for it.
@@ -116,8 +87,10 @@ pub fn read_scene(alloc: Global, bytes: &[u8]) -> Result<Scene, SceneFault>
     ensures range { IfOk result InRange }
 {
     let begun = up_to_done(alloc, bytes)?;
-    let first = begun.part.lines + 1;
-    after_done(begun.scene, begun.rest, first)
+    match to_end(begun.rest, begun.part.lines + 1) {
+        Ok(()) => Ok(begun.scene),
+        Err(Refusal { line, reason }) => Err(SceneFault::Refused { line, reason }),
+    }
 }
 
 /// The scene that begins the bytes, at most 4,294,967,294 of them, and how much of them it takes. What follows its `done`

@@ -5,7 +5,8 @@ ghost use Rattle.std.specs.List.{flat_map};
 ghost use Rattle.dri_base.specs.Ranges.{InRange};
 ghost use Rattle.dri_scene.specs.Readings.{scene_of};
 ghost use Rattle.dri_scene.specs.Stored.{IsColour, IsStoredClient, IsStoredCommand, IsStoredTexture};
-ghost use Rattle.dri_scene.specs.Texts.{Adds, block_lines, change_words, client_lines, command_words, format_word, head_lines, item_words, line_bytes, mapped_word, scene_text, screen_words, texture_words, window_words};
+ghost use Rattle.dri_scene.specs.Texts.{Adds, block_lines, change_words, client_lines, command_words, format_word, head_lines, item_words, mapped_word, scene_text, screen_words, texture_words, window_words};
+ghost use Rattle.dri_words.specs.Lines.{line_bytes};
 ghost use Rattle.dri_base.specs.declared.command.Change.TheVariants as Change;
 
 use crate::print_command::push_command;

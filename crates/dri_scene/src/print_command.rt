@@ -4,7 +4,8 @@ ghost use Rattle.std.specs.Prelude.{◌≡◌, ◌++◌, ◌∷◌, [], ℕ, Lis
 ghost use Rattle.dri_base.specs.declared.command.Command.TheVariants as Command;
 ghost use Rattle.dri_base.specs.declared.state.Setting.TheVariants as Setting;
 ghost use Rattle.dri_scene.specs.Stored.{IsCorner, IsStoredCommand};
-ghost use Rattle.dri_scene.specs.Texts.{Adds, blend_word, command_words, corner_words, depth_func_word, line_bytes, setting_words, shade_word, switch_word, tex_mode_word, words_bytes, wrap_word};
+ghost use Rattle.dri_scene.specs.Texts.{Adds, blend_word, command_words, corner_words, depth_func_word, setting_words, shade_word, switch_word, tex_mode_word, wrap_word};
+ghost use Rattle.dri_words.specs.Lines.{line_bytes, words_bytes};
 
 use crate::words::{
     end_line, push_bytes, push_colour, push_colour_alpha, push_number, push_signed, push_small,
@@ -117,18 +118,19 @@ fn push_scissor(text: &mut Vec<u8>, rect: &ClipRect) -> Result<(), AllocError>
 fn push_setting(text: &mut Vec<u8>, setting: &Setting) -> Result<(), AllocError>
     ensures { OnOk result (Adds text.old.items (line_bytes (codes "set" ∷ setting_words setting.now)) text.new.items) }
 {
-    match setting {
-        Setting::Shade(shade) => push_plain_setting(text, b"shade", shade_word(*shade)),
-        Setting::DepthFunc(func) => push_plain_setting(text, b"depth", depth_func_word(*func)),
-        Setting::DepthWrite(on) => push_plain_setting(text, b"write", switch_word(*on)),
-        Setting::Blend(blend) => push_plain_setting(text, b"blend", blend_word(*blend)),
-        Setting::TexMode(mode) => push_plain_setting(text, b"texmode", tex_mode_word(*mode)),
-        Setting::Wrap(wrap) => push_plain_setting(text, b"wrap", wrap_word(*wrap)),
-        Setting::Bind(None) => push_plain_setting(text, b"bind", b"none"),
-        Setting::Bind(Some(texture)) => push_bind(text, *texture),
-        Setting::Scissor(None) => push_plain_setting(text, b"scissor", b"none"),
-        Setting::Scissor(Some(rect)) => push_scissor(text, rect),
-    }
+    let (name, word): (&[u8], &[u8]) = match setting {
+        Setting::Shade(shade) => (b"shade", shade_word(*shade)),
+        Setting::DepthFunc(func) => (b"depth", depth_func_word(*func)),
+        Setting::DepthWrite(on) => (b"write", switch_word(*on)),
+        Setting::Blend(blend) => (b"blend", blend_word(*blend)),
+        Setting::TexMode(mode) => (b"texmode", tex_mode_word(*mode)),
+        Setting::Wrap(wrap) => (b"wrap", wrap_word(*wrap)),
+        Setting::Bind(None) => (b"bind", b"none"),
+        Setting::Bind(Some(texture)) => return push_bind(text, *texture),
+        Setting::Scissor(None) => (b"scissor", b"none"),
+        Setting::Scissor(Some(rect)) => return push_scissor(text, rect),
+    };
+    push_plain_setting(text, name, word)
 }
 
 /// `clear RRGGBB Z`

@@ -5,7 +5,8 @@ ghost use Rattle.std.specs.Option.{option_copied};
 ghost use Rattle.dri_words.specs.Parts.{parts_at};
 ghost use Rattle.dri_base.specs.Ranges.{heap_bytes, owner_of};
 ghost use Rattle.dri_base.specs.Scenes.{kills_in};
-ghost use Rattle.dri_scene.specs.Readings.{Leads, or_else, no_script, opening, has_window, has_client, has_texture, with_window, owns, with_client, digit_value, image_bytes, with_texture, names_textures, with_command, window_changed, with_change, names_client, kills_again, with_item, with_end, with_screen, with_heap, taken, after_words, is_passed_over, after_bytes};
+ghost use Rattle.dri_scene.specs.Readings.{Leads, no_script, opening, has_window, has_client, has_texture, with_window, owns, with_client, digit_value, image_bytes, with_texture, names_textures, with_command, with_change, names_client, kills_again, with_item, with_end, with_screen, with_heap, taken, after_words, after_bytes};
+ghost use Rattle.dri_words.specs.Lines.{or_else, is_passed_over};
 ghost use Rattle.dri_scene.specs.Soundness.{IsSound};
 
 use crate::fault::Stop;
@@ -13,20 +14,12 @@ use crate::head_form::form_of;
 use crate::line::{Line, line_in};
 use crate::place::{Place, is_in_client, place_after};
 use dri_base::{
-    Bytes, Change, Changes, ClientScript, Clients, Command, Commands, Item, Items, OutOfMemory,
-    Rgb, Scene, Setting, TexShape, Texture, Textures, Window, Windows,
+    Bytes, Change, Changes, ClientScript, Clients, Command, Commands, Item, Items, MOST_CHANGES,
+    MOST_COMMANDS, MOST_ITEMS, OutOfMemory, Rgb, Scene, Setting, TexShape, Texture, Textures,
+    Window, Windows,
 };
-use dri_words::Reason;
+use dri_words::{Reason, is_passed_over};
 use std::alloc::Global;
-
-/// The most commands that all clients together may have.
-const MOST_COMMANDS: u32 = 100_000;
-
-/// The most changes.
-const MOST_CHANGES: usize = 4_096;
-
-/// The most items of a schedule.
-const MOST_ITEMS: usize = 1_000_000;
 
 /// A scene as far as it was read: the place in its text, the client's block that is being read, how many commands all
 /// clients have together, and the numbers of the last client and of its last texture, 0 where there is none.
@@ -221,7 +214,7 @@ fn with_command(reading: &mut Reading, command: Command) -> Result<(), Stop>
     if !names_textures(reading.script.textures.as_slice(), &command) {
         return Err(Stop::Refused(Reason::Unknown));
     }
-    if MOST_COMMANDS <= reading.commands {
+    if MOST_COMMANDS <= reading.commands as usize {
         return Err(Stop::Refused(Reason::Limit));
     }
     reading.script.commands.push(command)?;
@@ -229,26 +222,12 @@ fn with_command(reading: &mut Reading, command: Command) -> Result<(), Stop>
     Ok(())
 }
 
-/// The window that a change names.
-fn window_changed(change: &Change) -> u32
-    ensures { result ≡ window_changed change.now }
-{
-    match change {
-        Change::Map { window }
-        | Change::Unmap { window }
-        | Change::Move { window, .. }
-        | Change::Resize { window, .. }
-        | Change::Raise { window }
-        | Change::Lower { window } => *window,
-    }
-}
-
 /// A change more. Unknown: its window isn't there. Limit: it is the 4,097th.
 #[tactic(auto, unfolding(crate::specs::Readings::with_change))]
 fn with_change(reading: &mut Reading, change: Change) -> Result<(), Stop>
     ensures { Leads result (with_change reading.old change) reading.new }
 {
-    if !has_window(window_changed(&change), reading.scene.windows.as_slice()) {
+    if !has_window(change.window(), reading.scene.windows.as_slice()) {
         return Err(Stop::Refused(Reason::Unknown));
     }
     if MOST_CHANGES <= reading.scene.changes.len() {
@@ -398,16 +377,6 @@ fn after_words(reading: &mut Reading, alloc: Global, bytes: &[u8]) -> Result<(),
     taken(reading, alloc, line)?;
     reading.place = place;
     Ok(())
-}
-
-/// Whether a line is passed over: it is empty, or begins with `#`.
-pub fn is_passed_over(bytes: &[u8]) -> bool
-    ensures { result ≡ is_passed_over bytes.now }
-{
-    match bytes {
-        [] => true,
-        [first, ..] => *first == b'#',
-    }
 }
 
 /// Takes on a line's bytes.

@@ -10,7 +10,7 @@ use Rattle.dri_base.specs.declared.scene.ClientScript.{ClientScript}
 use Rattle.dri_base.specs.declared.scene.Scene.{Scene}
 use Rattle.dri_base.specs.declared.shape.Rect.{Rect}
 use Rattle.dri_base.proofs.RangeLemmas.{number_of_script, owns_window, well_formed}
-use Rattle.dri_card.specs.Contents.{Contents, HaveSides}
+use Rattle.dri_card.specs.Contents.{Contents}
 use Rattle.dri_core.specs.Phases.{Ended, In, Phase}
 use Rattle.dri_core.specs.Runs.{HoldRun, IsCurrent, after}
 use Rattle.dri_core.specs.Worlds.{World, clips_in}
@@ -20,7 +20,7 @@ use Rattle.dri_core.proofs.Lively.{lively_after, not_empty}
 use Rattle.dri_core.proofs.RunLaws.{acting_current}
 use Rattle.dri_model.specs.Stacks.{is_window, top}
 use Rattle.dri_shared.specs.Copies.{IsCopyOf}
-use Rattle.dri_shared.specs.Drawing.{IsScreen, StayOn}
+use Rattle.dri_shared.specs.Drawing.{StayOn}
 use Rattle.dri_shared.proofs.Windows.{has_after, has_contains, has_owned}
 
 -- what holds of each script, and of a client's without one, holds of each client's
@@ -84,18 +84,3 @@ copy_stays s w c copy clips card is current wide high (pos x) (pos y) e =
 copy_stays s w c copy clips card is current wide high (pos x) (negsuc y) e = sym (is (pos x) (negsuc y)) ∙ e
 copy_stays s w c copy clips card is current wide high (negsuc x) (pos y) e = sym (is (negsuc x) (pos y)) ∙ e
 copy_stays s w c copy clips card is current wide high (negsuc x) (negsuc y) e = sym (is (negsuc x) (negsuc y)) ∙ e
-
--- the card of a scene is a screen
-pub card_screen : (s : Scene) (card : Contents) → InRange s → HaveSides card s.width s.height → IsScreen card
-card_screen s card good sides = record {
-  sides = record {
-    front_width = refl;
-    front_height = refl;
-    back_width = sides.back_width ∙ sym sides.front_width;
-    back_height = sides.back_height ∙ sym sides.front_height;
-    depth_width = sides.depth_width ∙ sym sides.front_width;
-    depth_height = sides.depth_height ∙ sym sides.front_height;
-  };
-  wide = rw sides.front_width good.card.wide.1;
-  high = rw sides.front_height good.card.high.1;
-}

@@ -10,8 +10,8 @@ use Rattle.dri_base.specs.declared.shape.Triangle.{Triangle}
 use Rattle.dri_card.specs.Contents.{Contents, HaveSides, Holds, KeepSides, Shows}
 use Rattle.dri_card.specs.Drawing.{OnlyDrawn, OnlyShown, after_triangle, cleared, drawn, swapped}
 use Rattle.dri_rect.specs.Pixels.{inside, has_pixel}
-use Rattle.dri_shared.specs.Drawing.{IsSameRect, IsScreen, OnlyDrawnOn, cleared_in, drawn_in, in_clips, swapped_in}
-use Rattle.dri_shared.proofs.Rects.{inside_more, same_pixels}
+use Rattle.dri_shared.specs.Drawing.{OnlyDrawnOn, cleared_in, drawn_in, in_clips, swapped_in}
+use Rattle.dri_shared.proofs.Rects.{IsSameRect, inside_more, same_pixels}
 
 -- a fact of the case that it is
 pub on_ok : {A E : Type 0} (r : Result A E) (P : Type 0) → IsOk r → OnOk r P → P
@@ -41,23 +41,6 @@ holds_shown a b f only h = record { colours = rw (ap {A = Contents} (λ v. v.bac
 
 pub holds_clipped : (a b : Contents) (c : ClipRect) (f : ℕ → ℕ → Pixel) → b ≡ record a { clip = c } → Holds a f → Holds b f
 holds_clipped a b c f is h = record { colours = rw (ap {A = Contents} (λ v. v.back) is) h.colours; depths = rw (ap {A = Contents} (λ v. v.depth) is) h.depths }
-
--- a screen stays one where the sides stay
-pub screen_kept : (a b : Contents) → KeepSides a b → IsScreen a → IsScreen b
-screen_kept a b keep is =
-    let s = keep a.front.width a.front.height is.sides in
-    record {
-      sides = record {
-        front_width = refl;
-        front_height = refl;
-        back_width = s.back_width ∙ sym s.front_width;
-        back_height = s.back_height ∙ sym s.front_height;
-        depth_width = s.depth_width ∙ sym s.front_width;
-        depth_height = s.depth_height ∙ sym s.front_height;
-      };
-      wide = rw s.front_width is.wide;
-      high = rw s.front_height is.high;
-    }
 
 -- the sides of a screen's planes
 pub screen_sides : (v : Contents) (width height : ℕ) → HaveSides v v.front.width v.front.height → v.front.width ≡ width → v.front.height ≡ height → HaveSides v width height
@@ -106,6 +89,20 @@ drawn_once v o t r c f same x y = rw (same_pixels r c x y same) (one (has_pixel 
     one : (b : Bool) (p q : Pixel) → (if b then p else q) ≡ (if b || false then p else q)
     one true p q = refl
     one false p q = refl
+
+-- a dispatch in one rectangle
+pub rect_drawn : (a b d : Contents) (o : Point) (t : Triangle) (r : Rect) (c : ClipRect) (f : ℕ → ℕ → Pixel) → IsSameRect r c → b ≡ record a { clip = c } → Holds a f → (Holds b f → Holds d (after_triangle b o t f)) → Holds d (drawn_in a o t (r ∷ []) f)
+rect_drawn a b d o t r c f same clipped holds draws =
+    holds_same d (after_triangle (record a { clip = c }) o t f) (drawn_in a o t (r ∷ []) f) (drawn_once a o t r c f same)
+    (subst (λ (v : Contents). Holds d (after_triangle v o t f)) clipped (draws (holds_clipped a b c f clipped holds)))
+
+pub clipped_on : (a b d : Contents) (c : ClipRect) → b ≡ record a { clip = c } → OnlyDrawn b d → OnlyDrawnOn a d
+clipped_on a b d c clipped only =
+    let e : d ≡ record a { back = d.back; depth = d.depth; clip = c } = only ∙ ap {A = Contents} (λ v. record v { back = d.back; depth = d.depth }) clipped in
+    e ∙ ap (λ (k : ClipRect). record a { back = d.back; depth = d.depth; clip = k }) (sym (ap (λ (v : Contents). v.clip) e))
+
+pub clipped_sides : (a b : Contents) (c : ClipRect) → b ≡ record a { clip = c } → KeepSides a b
+clipped_sides a b c clipped w h s = subst (λ (v : Contents). HaveSides v w h) (sym clipped) (record { front_width = s.front_width; front_height = s.front_height; back_width = s.back_width; back_height = s.back_height; depth_width = s.depth_width; depth_height = s.depth_height })
 
 pub drawn_more : (v w : Contents) (o : Point) (t : Triangle) (rs : List Rect) (i : ℕ) (r : Rect) (f : ℕ → ℕ → Pixel) → OnlyDrawnOn v w → slice_get rs i ≡ Some r →
     ((x y : ℤ) → has_pixel r x y ≡ true → inside (take i rs) x y ≡ false) →

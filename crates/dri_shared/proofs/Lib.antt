@@ -1,14 +1,17 @@
-pub mod Places
-pub mod Steps
-pub mod Rects
-pub mod Drawn
-pub mod Painted
-pub mod Windows
-pub mod Shown
-pub mod Clients
-pub mod Ran
-pub mod Inside
-pub mod Bindings
-pub mod Opening
-pub mod Loading
-pub mod Examples
+-- rectangles of the screen, and drawing and painting in them
+mod Rects
+mod Drawn
+mod Painted
+-- what a journal leaves: windows, clients, places of commands, runs of textures, what scripts bind
+mod Windows
+mod Clients
+mod Places
+mod Inside
+mod Bindings
+-- one entry more: the opening, each kind of entry, and the runs of commands
+mod Opening
+mod Steps
+mod Loading
+mod Ran
+-- the shared area
+mod Shown

@@ -8,8 +8,6 @@ use Rattle.dri_base.specs.declared.journal.Entry.{Entry}
 use Rattle.dri_base.specs.declared.journal.Entry.TheVariants.{Emit, Place}
 use Rattle.dri_base.specs.declared.scene.Scene.{Scene}
 use Rattle.dri_base.specs.declared.state.Registers.{Registers}
-use Rattle.dri_base.specs.declared.state.TexMode.{TexMode}
-use Rattle.dri_base.specs.declared.state.TexMode.TheVariants as Mode_is
 use Rattle.dri_base.specs.declared.texture.BoundTexture.{BoundTexture}
 use Rattle.dri_base.specs.declared.texture.TexFormat.{TexFormat}
 use Rattle.dri_base.specs.declared.texture.TexFormat.TheVariants.{L8, Rgb565}
@@ -21,10 +19,11 @@ use Rattle.dri_card.specs.Loading.{CanLoad, IsImageWithin}
 use Rattle.dri_core.specs.Effects.{placed_by, run_at}
 use Rattle.dri_core.specs.EntryTable.{after_entry}
 use Rattle.dri_core.specs.Phases.{In}
-use Rattle.dri_core.specs.Privates.{Private, bound_texture, own_registers, textured_with, texture_used}
+use Rattle.dri_core.specs.Privates.{Private, bound_texture, own_registers, textured_with}
 use Rattle.dri_core.specs.Runs.{HoldRun, IsClean, after}
 use Rattle.dri_core.specs.Worlds.{World}
 use Rattle.dri_core.proofs.RunLaws.{owner_clean}
+use Rattle.dri_core.proofs.Parts.{used_bound}
 use Rattle.dri_model.specs.Groups.{Groups, bits, no_groups}
 use Rattle.dri_model.specs.Heaps.{Heap, allocated, is_place_for, uploaded}
 use Rattle.dri_model.specs.Words.{loaded, register_words}
@@ -63,12 +62,6 @@ can_load s journal h c groups words good run is acts g e = (
     bound : (loaded groups (own_registers s c part) h.card.registers).bound ≡ bound_texture s c part
     bound = loaded_is groups.bound (bound_texture s c part) h.card.registers.bound (λ off. ap {A = Registers} (λ r. r.bound) is.card.loaded ∙ clean.bound (ap {A = Groups} (λ k. k.bound) (sym g) ∙ off))
 
--- a texture that a client's state is textured with is there
-bound_where : (mode : TexMode) (bound : Option ℕ) (t : ℕ) → texture_used mode bound ≡ Some t → bound ≡ Some t
-bound_where Mode_is.Off bound t e = absurd (cc)
-bound_where Mode_is.Replace bound t e = e
-bound_where Mode_is.Modulate bound t e = e
-
 some_bytes : (f : TexFormat) (w h n : ℕ) → n ≡ texel_bytes f * (w * h) → 1 ≤ w → 1 ≤ h → 0 < n
 some_bytes L8 w h n e lw lh = let high : 0 < h = omega (arith, lh) in omega (arith, e, lw, le-mul_of_pos_right w high)
 some_bytes Rgb565 w h n e lw lh = let high : 0 < h = omega (arith, lh) in omega (arith, e, lw, le-mul_of_pos_right w high)
@@ -84,7 +77,7 @@ pub placeable : (s : Scene) (journal : List Entry) (c t : ℕ) → (good : InRan
 placeable s journal c t good run e = by_texture (texture_in (textures_of s c) t) refl
   where
     bound : ((after s journal).client c).state.bound ≡ Some t
-    bound = bound_where ((after s journal).client c).state.tex_mode ((after s journal).client c).state.bound t e
+    bound = used_bound ((after s journal).client c).state.tex_mode ((after s journal).client c).state.bound t e
 
     there : texture_in (textures_of s c) t ≢ None
     there = texture_there (textures_of s c) t ((part_binds s journal good run c).bound t bound)

@@ -1,6 +1,6 @@
 -- Paints one after the other, and what a new stack leaves in front.
 use Rattle.std.proofs.Common.{◌≡◌, ◌≢◌, ◌<◌, ◌↔◌, ℕ, zero, suc, ◌+◌, List, [], ◌∷◌, take, length, Bool, true, false, ◌&&◌, if◌then◌else◌, Option, Some, None, slice_index_or, refl, ◌∙◌, subst, arith, AllPairs, Result, Ok, Err, OnOk, OnErr}
-use Rattle.std.proofs.lemmas.Bool.Decides.{nat_tests, Decides-int_eq}
+use Rattle.std.proofs.lemmas.Bool.Decides.{nat_tests}
 use Rattle.dri_base.specs.declared.colour.Rgb.{Rgb}
 use Rattle.dri_base.specs.declared.scene.Window.{Window}
 use Rattle.dri_card.specs.Contents.{Contents, HaveSides, KeepSides, Shows}
@@ -14,7 +14,7 @@ use Rattle.dri_clips.specs.declared.touched.Paint.{Paint}
 use Rattle.dri_clips.specs.declared.touched.Touched.{Touched}
 use Rattle.dri_core.proofs.Stamps.{untouched}
 use Rattle.dri_model.specs.Counting.{how_many}
-use Rattle.dri_model.specs.Stacks.{Refusal, clips, ground_colour, is_touched, origin, painted, restamped, same_top, top, unless_refused}
+use Rattle.dri_model.specs.Stacks.{Refusal, ground_colour, is_touched, painted, restamped, same_top, top, unless_refused}
 use Rattle.dri_base.proofs.PlaneLists.{plane_same}
 use Rattle.dri_shared.specs.Holdings.{IsRestackedOn}
 use Rattle.dri_shared.proofs.Drawn.{shows_same}

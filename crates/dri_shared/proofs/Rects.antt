@@ -1,6 +1,7 @@
 -- Lists of rectangles, gone through from the first one on, and rectangles that lie on the screen.
-use Rattle.std.proofs.Common.{◌≡◌, ◌<◌, ◌≤◌, ◌≤ℤ◌, ◌<ℤ◌, ◌-ℤ◌, ℕ, zero, suc, ◌-◌, ℤ, pos, negsuc, List, [], ◌∷◌, take, length, Bool, true, false, ◌&&◌, ◌||◌, nat_lt, nat_le, int_lt, int_le, Some, slice_get, slice_index_or, refl, ap, subst, arith, AllPairs}
+use Rattle.std.proofs.Common.{◌≡◌, ◌<◌, ◌≤◌, ◌≤ℤ◌, ◌<ℤ◌, ◌-ℤ◌, ℕ, zero, suc, ◌-◌, ℤ, pos, negsuc, List, [], ◌∷◌, take, length, Bool, true, false, ◌&&◌, ◌||◌, nat_lt, nat_le, int_lt, int_le, Some, slice_get, slice_index_or, refl, ap, sym, subst, arith, AllPairs}
 use Rattle.std.specs.List.{AllByRecursion}
+use Rattle.std.specs.Prelude.{unsigned_abs}
 use Rattle.std.proofs.lemmas.Bool.Decides.{nat_tests}
 use Rattle.std.proofs.lemmas.Int.{ints}
 use Rattle.dri_base.specs.declared.shape.ClipRect.{ClipRect}
@@ -9,7 +10,7 @@ use Rattle.dri_base.specs.Planes.{in_rect}
 use Rattle.dri_plane.specs.Grids.{IsInside}
 use Rattle.dri_rect.specs.Pixels.{inside, has_pixel, IsProper, IsApart}
 use Rattle.dri_shared.specs.Copies.{has_place}
-use Rattle.dri_shared.specs.Drawing.{IsSameRect, IsShown}
+use Rattle.dri_clips.specs.Gains.{IsRectOnScreen, clip_rect}
 
 -- an item that is there
 pub item_is : {A : Type 0} (xs : List A) (i : ℕ) (x d : A) → slice_get xs i ≡ Some x → slice_index_or xs i d ≡ x
@@ -96,19 +97,39 @@ last_pixel r p = let a = p.across in let b = p.down in grind (arith, nat_tests)
 
 -- proper rectangles whose pixels all lie on the screen lie on it
 pub shown_at : (width height : ℕ) (rs : List Rect) (i : ℕ) (r : Rect) → AllByRecursion IsProper rs → ((x y : ℤ) → inside rs x y ≡ true → has_place (on_screen width height) x y ≡ true) →
-    slice_get rs i ≡ Some r → IsShown width height r
+    slice_get rs i ≡ Some r → IsRectOnScreen width height r
 shown_at width height rs i r proper within e =
     let p = all_at IsProper rs i r proper e in
     let first = place_on width height r.x1 r.y1 (within r.x1 r.y1 (inside_at rs i r r.x1 r.y1 e (first_pixel r p))) in
     let last = place_on width height (r.x2 -ℤ pos 1) (r.y2 -ℤ pos 1) (within (r.x2 -ℤ pos 1) (r.y2 -ℤ pos 1) (inside_at rs i r (r.x2 -ℤ pos 1) (r.y2 -ℤ pos 1) e (last_pixel r p))) in
     record {
       left = first.0;
-      across = omega (arith, ints, p.across);
+      start = omega (arith, ints, p.across);
       right = omega (arith, ints, last.1);
       top = first.2;
-      down = omega (arith, ints, p.down);
+      head = omega (arith, ints, p.down);
       bottom = omega (arith, ints, last.3);
     }
+
+-- the two rectangles are one
+pub record IsSameRect (r : Rect) (c : ClipRect) : Type 0 where
+  pub left : pos c.x1 ≡ r.x1
+  pub top : pos c.y1 ≡ r.y1
+  pub right : pos c.x2 ≡ r.x2
+  pub bottom : pos c.y2 ≡ r.y2
+
+-- a rectangle of the screen is the card's
+pub same_rect : (width height : ℕ) (r : Rect) (c : ClipRect) → IsRectOnScreen width height r → c ≡ clip_rect r → IsSameRect r c
+same_rect width height r c shown is = subst (IsSameRect r) (sym is) (record {
+  left = counted r.x1 shown.left;
+  top = counted r.y1 shown.top;
+  right = counted r.x2 (omega (arith, ints, shown.left, shown.start));
+  bottom = counted r.y2 (omega (arith, ints, shown.top, shown.head));
+})
+  where
+    counted : (x : ℤ) → pos 0 ≤ℤ x → pos (unsigned_abs x) ≡ x
+    counted (pos x) l = refl
+    counted (negsuc x) l = grind (arith, nat_tests)
 
 -- the card's rectangle has the same pixels, and lies on the card
 pub same_pixels : (r : Rect) (c : ClipRect) (x y : ℕ) → IsSameRect r c → in_rect c x y ≡ has_pixel r (pos x) (pos y)
@@ -117,21 +138,21 @@ same_pixels r c x y same = rw (← same.left, ← same.right, ← same.top, ← 
     pixels : (x1 x2 y1 y2 : ℕ) → ((nat_le x1 x && nat_lt x x2) && (nat_le y1 y && nat_lt y y2)) ≡ ((int_le (pos y1) (pos y) && int_lt (pos y) (pos y2)) && (int_le (pos x1) (pos x) && int_lt (pos x) (pos x2)))
     pixels x1 x2 y1 y2 = grind (arith, nat_tests)
 
-pub same_inside : (r : Rect) (c : ClipRect) (width height : ℕ) → IsSameRect r c → IsShown width height r → IsInside c width height
+pub same_inside : (r : Rect) (c : ClipRect) (width height : ℕ) → IsSameRect r c → IsRectOnScreen width height r → IsInside c width height
 same_inside r c width height same shown = record {
-  columns = omega (arith, ints, same.left, same.right, shown.across);
+  columns = omega (arith, ints, same.left, same.right, shown.start);
   right = omega (arith, ints, same.right, shown.right);
-  rows = omega (arith, ints, same.top, same.bottom, shown.down);
+  rows = omega (arith, ints, same.top, same.bottom, shown.head);
   bottom = omega (arith, ints, same.bottom, shown.bottom);
 }
 
 -- a rectangle of a screen of at most 1,024 by 1,024
-pub shown_small : (width height : ℕ) (r : Rect) → width ≤ 1024 → height ≤ 1024 → IsShown width height r → IsShown 1024 1024 r
+pub shown_small : (width height : ℕ) (r : Rect) → width ≤ 1024 → height ≤ 1024 → IsRectOnScreen width height r → IsRectOnScreen 1024 1024 r
 shown_small width height r wide high shown = record {
   left = shown.left;
-  across = shown.across;
+  start = shown.start;
   right = omega (arith, ints, shown.right, wide);
   top = shown.top;
-  down = shown.down;
+  head = shown.head;
   bottom = omega (arith, ints, shown.bottom, high);
 }

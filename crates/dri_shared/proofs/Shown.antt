@@ -1,7 +1,6 @@
 -- What the shared area shows of the scene's windows and of the card's owner.
 use Rattle.std.proofs.Common.{◌≡◌, ◌≤◌, ℕ, ◌+◌, List, [], ◌∷◌, ◌++◌, map, Bool, true, false, if◌then◌else◌, Option, Some, None, refl, ◌∙◌, sym, ap, arith, inl, inr, All, Contains, Result, Ok, Err, IfOk}
 use Rattle.std.specs.List.{AllByRecursion, range_with_len}
-use Rattle.std.specs.Option.{is_some}
 use Rattle.std.proofs.lemmas.Bool.{true≢false}
 use Rattle.std.proofs.lemmas.Bool.Decides.{eqb_tells}
 use Rattle.std.proofs.lemmas.List.Elements.{All-map}
@@ -74,14 +73,6 @@ same_numbers s journal n = by_case (has_number s.windows n) refl
 -- a number that is there is one of the numbers
 pub number_there : (windows stack : List Window) (n : ℕ) → HaveSameNumbers windows stack → has_number windows n ≡ true → Contains (window_numbers stack) n
 number_there windows stack n same e = has_contains stack n (has_some stack n (sym (same n) ∙ e))
-
--- a number that isn't there has no drawable
-pub shown_none : (windows stack : List Window) (stamps : ℕ → ℕ) (n : ℕ) → HaveSameNumbers windows stack → has_number windows n ≡ false → record { stamp = 0; flags = 0 } ≡ drawable_of stack stamps n
-shown_none windows stack stamps n same e = none (window_in stack n) (sym (same n) ∙ e)
-  where
-    none : (o : Option Window) → is_some o ≡ false → record { stamp = 0; flags = 0 } ≡ shown_with (stamps n) o
-    none None e = refl
-    none (Some w) e = absurd (true≢false e)
 
 -- flags are 0 or 1
 pub shown_flags : (stack : List Window) (stamps : ℕ → ℕ) → All (λ d. d.flags ≤ 1) (drawables_of stack stamps)

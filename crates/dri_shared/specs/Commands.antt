@@ -1,7 +1,7 @@
 -- A client's next command, and its next entry.
 use Rattle.std.specs.Prelude.{◌≡◌, ℕ, Bool, true, false, Option, Some, None}
 use Rattle.dri_base.specs.declared.command.Command.{Command}
-use Rattle.dri_base.specs.declared.command.Command.TheVariants.{Clear, Die, Set, Swap, Triangle, Yield}
+use Rattle.dri_base.specs.declared.command.Command.TheVariants.{Set, Yield}
 use Rattle.dri_base.specs.declared.journal.Entry.{Entry}
 use Rattle.dri_base.specs.declared.journal.Entry.TheVariants.{Run}
 use Rattle.dri_base.specs.Scenes.{command_at}
@@ -21,22 +21,12 @@ next_run w c = Run c (w.client c).place
 -- the command is a setting
 abbrev pub is_setting : Option Command → Bool
 is_setting (Some (Set setting)) = true
-is_setting (Some (Clear colour depth)) = false
-is_setting (Some (Triangle t)) = false
-is_setting (Some Swap) = false
-is_setting (Some Yield) = false
-is_setting (Some Die) = false
-is_setting None = false
+is_setting command = false
 
 -- the command is a yield
 abbrev pub is_yield : Option Command → Bool
 is_yield (Some Yield) = true
-is_yield (Some (Set setting)) = false
-is_yield (Some (Clear colour depth)) = false
-is_yield (Some (Triangle t)) = false
-is_yield (Some Swap) = false
-is_yield (Some Die) = false
-is_yield None = false
+is_yield command = false
 
 -- client c is in, its next command is a triangle that is textured with texture t, and t isn't placed
 pub record WantsPlace (s : Scene) (w : World) (c t : ℕ) : Type 0 where

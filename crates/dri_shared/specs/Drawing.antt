@@ -1,8 +1,7 @@
 -- What is drawn in a list of rectangles, and what a list of paints leaves in front.
-use Rattle.std.specs.Prelude.{◌≡◌, ◌≤◌, ◌≤ℤ◌, ◌-ℤ◌, ℕ, ℤ, pos, List, Bool, true, ◌&&◌, nat_lt, Option, Some, None, if◌then◌else◌}
+use Rattle.std.specs.Prelude.{◌≡◌, ◌≤◌, ◌-ℤ◌, ℕ, ℤ, pos, List, Bool, true, ◌&&◌, nat_lt, Option, Some, None, if◌then◌else◌}
 use Rattle.dri_base.specs.declared.colour.Pixel.{Pixel}
 use Rattle.dri_base.specs.declared.colour.Rgb.{Rgb}
-use Rattle.dri_base.specs.declared.shape.ClipRect.{ClipRect}
 use Rattle.dri_base.specs.declared.shape.Point.{Point}
 use Rattle.dri_base.specs.declared.shape.Rect.{Rect}
 use Rattle.dri_base.specs.declared.shape.Triangle.{Triangle}
@@ -12,24 +11,11 @@ use Rattle.dri_model.specs.Heaps.{Heap, Run, touched}
 use Rattle.dri_rect.specs.Pixels.{inside}
 use Rattle.dri_shared.specs.Copies.{has_place}
 
--- the rectangle lies within the sides
-pub record IsShown (width height : ℕ) (r : Rect) : Type 0 where
-  pub left : pos 0 ≤ℤ r.x1
-  pub across : r.x1 ≤ℤ r.x2
-  pub right : r.x2 ≤ℤ pos width
-  pub top : pos 0 ≤ℤ r.y1
-  pub down : r.y1 ≤ℤ r.y2
-  pub bottom : r.y2 ≤ℤ pos height
-
 -- the card's planes have the same sides, of at most 1,024
 pub record IsScreen (v : Contents) : Type 0 where
   pub sides : HaveSides v v.front.width v.front.height
   pub wide : v.front.width ≤ 1024
   pub high : v.front.height ≤ 1024
-
--- the rectangle lies on the card
-abbrev pub IsShownOn : Contents → Rect → Type 0
-IsShownOn v r = IsShown v.front.width v.front.height r
 
 -- the card has the pixel
 abbrev pub on_card : Contents → ℕ → ℕ → Bool
@@ -38,13 +24,6 @@ on_card v x y = nat_lt x v.front.width && nat_lt y v.front.height
 -- each pixel of the rectangles is one of the card
 abbrev pub StayOn : Contents → List Rect → Type 0
 StayOn v rects = (x y : ℤ) → inside rects x y ≡ true → has_place (on_card v) x y ≡ true
-
--- the two rectangles are one
-pub record IsSameRect (r : Rect) (c : ClipRect) : Type 0 where
-  pub left : pos c.x1 ≡ r.x1
-  pub top : pos c.y1 ≡ r.y1
-  pub right : pos c.x2 ≡ r.x2
-  pub bottom : pos c.y2 ≡ r.y2
 
 -- one of the rectangles has the pixel of the screen
 abbrev pub in_clips : List Rect → ℕ → ℕ → Bool

@@ -5,4 +5,3 @@ pub mod Copies
 pub mod Commands
 pub mod Sides
 pub mod Areas
-pub mod Examples

@@ -9,7 +9,7 @@ ghost use Rattle.dri_shared.specs.States.{world_of};
 use crate::shared::Shared;
 use dri_base::{OutOfMemory, Scene, Window};
 use dri_clips::Board;
-use dri_sarea::{Drawable, Sarea};
+use dri_sarea::{DRAWABLE_COUNT, Drawable, Sarea};
 use std::alloc::Global;
 
 /// Whether a window has the number.
@@ -44,8 +44,8 @@ fn drawables(alloc: Global, windows: &[Window], board: &Board) -> Result<Vec<Dra
     requires { HaveSameNumbers windows.now board.now.stack }
     ensures { IfOk result (λ list. list.items ≡ drawables_of board.now.stack (stamps_of board.now)) }
 {
-    let mut list = Vec::with_capacity(alloc, 256)?;
-    for number in 0..256 {
+    let mut list = Vec::with_capacity(alloc, DRAWABLE_COUNT)?;
+    for number in 0..DRAWABLE_COUNT as u32 {
         list.push(drawable(windows, board, number))?;
     }
     Ok(list)

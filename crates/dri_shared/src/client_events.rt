@@ -1,5 +1,5 @@
 //! A client's events but for the runs of commands: each puts its entry last in the journal, and makes of the holdings
-//! what the entry makes of the world.
+//! what the entry makes of the world. A call reborrows the shared value first, whose fields it then reaches.
 
 ghost use Rattle.std.specs.Prelude.{◌≡◌, ◌≤◌, ◌+◌, ◌==◌, not};
 ghost use Rattle.dri_base.specs.declared.journal.Entry.TheVariants.{Light, Kernel, Stale, Emit, Place, Leave};
@@ -9,74 +9,91 @@ ghost use Rattle.dri_core.specs.Runs.{HoldRun};
 ghost use Rattle.dri_model.specs.Groups.{bits};
 ghost use Rattle.dri_model.specs.Words.{register_words};
 ghost use Rattle.dri_shared.specs.Commands.{WantsPlace};
-ghost use Rattle.dri_shared.specs.States.{Added, MayAdd, world_of};
+ghost use Rattle.dri_shared.specs.Sides.{Makes, MayMake, client_at, part_at, value_at, world_at};
 ghost use Rattle.dri_texheap.specs.RegionStates.{heap_of};
 
 use crate::answers::Taken;
+use crate::client_side::ClientSide;
 use crate::scripts::{regions_for, texture_bytes, window_of};
 use crate::shared::Shared;
 use dri_base::Entry;
 use dri_context::Groups;
 use dri_texheap::{Regions, Run};
 
-impl Shared {
+impl ClientSide<'_> {
     /// The client takes the lock by the light exchange.
-    pub(crate) fn light(&mut self, client: u32)
-        requires room { 1 ≤ self.old.spare }
-        requires legal { MayAdd self.old (Light client) }
-        ensures { Added self.old self.new (Light client) }
+    pub fn light(&mut self)
+        requires room { 1 ≤ (value_at self.old).spare }
+        requires legal { MayMake self.old (Light (client_at self.old)) }
+        ensures { Makes self.old self.new (Light (client_at self.old)) }
     {
-        self.holdings.holder = Some(client);
-        self.journal.push_reserved(Entry::Light { client });
+        let client = self.client;
+        let shared = &mut *self.shared;
+        shared.holdings.holder = Some(client);
+        shared.journal.push_reserved(Entry::Light { client });
     }
 
-    /// The kernel lets the client in.
-    pub(crate) fn kernel(&mut self, client: u32, found: u32) -> Taken
-        requires room { 1 ≤ self.old.spare }
-        requires legal { MayAdd self.old (Kernel client found) }
-        ensures made { Added self.old self.new (Kernel client found) }
-        ensures owner { result.new_owner ≡ not ((world_of self.old).owner == client + 1) }
-        ensures stamp { result.stamp ≡ (world_of self.old).stamps (window_of self.old.scene client) }
-        ensures age { result.age ≡ (world_of self.old).heap.global }
+    /// The kernel lets the client in, which found this context in the word. From now on the client's context owns the
+    /// card.
+    pub fn kernel(&mut self, found: u32) -> Taken
+        requires room { 1 ≤ (value_at self.old).spare }
+        requires legal { MayMake self.old (Kernel (client_at self.old) found) }
+        ensures made { Makes self.old self.new (Kernel (client_at self.old) found) }
+        ensures owner { result.new_owner ≡ not ((world_at self.old).owner == client_at self.old + 1) }
+        ensures stamp { result.stamp ≡ (world_at self.old).stamps (window_of (value_at self.old).scene (client_at self.old)) }
+        ensures age { result.age ≡ (world_at self.old).heap.global }
     {
-        let window = window_of(&self.scene, client);
+        let client = self.client;
+        let shared = &mut *self.shared;
+        let window = window_of(&shared.scene, client);
         let taken = Taken {
-            new_owner: self.holdings.owner != client + 1,
-            stamp: self.holdings.board.stamp(window),
-            age: self.holdings.regions.age(),
+            new_owner: shared.holdings.owner != client + 1,
+            stamp: shared.holdings.board.stamp(window),
+            age: shared.holdings.regions.age(),
         };
-        self.holdings.holder = Some(client);
-        self.holdings.owner = client + 1;
-        self.journal.push_reserved(Entry::Kernel { client, found });
+        shared.holdings.holder = Some(client);
+        shared.holdings.owner = client + 1;
+        shared
+            .journal
+            .push_reserved(Entry::Kernel { client, found });
         taken
     }
 
     /// The client says that its stamp is old.
-    pub(crate) fn stale(&mut self, client: u32)
-        requires room { 1 ≤ self.old.spare }
-        requires legal { MayAdd self.old (Stale client) }
-        ensures { Added self.old self.new (Stale client) }
+    pub fn stale(&mut self)
+        requires room { 1 ≤ (value_at self.old).spare }
+        requires legal { MayMake self.old (Stale (client_at self.old)) }
+        ensures { Makes self.old self.new (Stale (client_at self.old)) }
     {
-        let _holdings = &self.holdings;
-        self.journal.push_reserved(Entry::Stale { client });
+        let client = self.client;
+        let shared = &mut *self.shared;
+        let _holdings = &shared.holdings;
+        shared.journal.push_reserved(Entry::Stale { client });
     }
 
-    /// Regions are allocated for a texture of the client, and its bytes are uploaded there.
-    pub(crate) fn place(&mut self, client: u32, texture: u32) -> Run
-        requires room { 1 ≤ self.old.spare }
-        requires wanted { WantsPlace self.old.scene (world_of self.old) client texture }
-        ensures legal { MayAdd self.old (Place client texture result.first result.count) }
-        ensures made { Added self.old self.new (Place client texture result.first result.count) }
+    /// Regions are allocated for a texture of the client, and its bytes are uploaded there. The next command is a
+    /// triangle that is textured with this texture, which isn't placed.
+    pub fn place(&mut self, texture: u32) -> Run
+        requires room { 1 ≤ (value_at self.old).spare }
+        requires wanted { WantsPlace (value_at self.old).scene (world_at self.old) (client_at self.old) texture }
+        ensures legal { MayMake self.old (Place (client_at self.old) texture result.first result.count) }
+        ensures made { Makes self.old self.new (Place (client_at self.old) texture result.first result.count) }
     {
-        let size = self.scene.region_size;
-        let bytes = texture_bytes(&self.scene, client, texture);
-        let run = self
+        let client = self.client;
+        let shared = &mut *self.shared;
+        let size = shared.scene.region_size;
+        let bytes = texture_bytes(&shared.scene, client, texture);
+        let run = shared
             .holdings
             .regions
             .allocate(regions_for(size, bytes.len() as u32))
             .unwrap();
-        self.holdings.card.upload(run.first * size, bytes).unwrap();
-        self.journal.push_reserved(Entry::Place {
+        shared
+            .holdings
+            .card
+            .upload(run.first * size, bytes)
+            .unwrap();
+        shared.journal.push_reserved(Entry::Place {
             client,
             texture,
             first: run.first,
@@ -85,38 +102,45 @@ impl Shared {
         run
     }
 
-    /// The card's registers of these groups are loaded.
-    pub(crate) fn emit(&mut self, client: u32, groups: Groups, words: &[u32])
-        requires room { 1 ≤ self.old.spare }
-        requires groups { groups ≡ ((world_of self.old).client client).dirty }
-        requires legal { MayAdd self.old (Emit client (bits groups)) }
-        requires words { words.now ≡ register_words groups (own_registers self.old.scene client ((world_of self.old).client client)) }
-        ensures { Added self.old self.new (Emit client (bits groups)) }
+    /// The card's registers of these groups are loaded. `groups` is the set of the client's dirty groups, and `words` are
+    /// their register words.
+    pub fn emit(&mut self, groups: Groups, words: &[u32])
+        requires room { 1 ≤ (value_at self.old).spare }
+        requires groups { groups ≡ (part_at self.old).dirty }
+        requires legal { MayMake self.old (Emit (client_at self.old) (bits groups)) }
+        requires words { words.now ≡ register_words groups (own_registers (value_at self.old).scene (client_at self.old) (part_at self.old)) }
+        ensures { Makes self.old self.new (Emit (client_at self.old) (bits groups)) }
     {
-        self.holdings.card.load_registers(words).unwrap();
-        self.journal.push_reserved(Entry::Emit {
+        let client = self.client;
+        let shared = &mut *self.shared;
+        shared.holdings.card.load_registers(words).unwrap();
+        shared.journal.push_reserved(Entry::Emit {
             client,
             groups: groups.bits(),
         });
     }
 
     /// The client leaves the lock.
-    pub(crate) fn leave(&mut self, client: u32)
-        requires room { 1 ≤ self.old.spare }
-        requires legal { MayAdd self.old (Leave client) }
-        ensures { Added self.old self.new (Leave client) }
+    pub fn leave(&mut self)
+        requires room { 1 ≤ (value_at self.old).spare }
+        requires legal { MayMake self.old (Leave (client_at self.old)) }
+        ensures { Makes self.old self.new (Leave (client_at self.old)) }
     {
-        self.holdings.holder = None;
-        self.holdings.left = client + 1;
-        self.journal.push_reserved(Entry::Leave { client });
+        let client = self.client;
+        let shared = &mut *self.shared;
+        shared.holdings.holder = None;
+        shared.holdings.left = client + 1;
+        shared.journal.push_reserved(Entry::Leave { client });
     }
 
-    /// The texture regions.
-    pub(crate) fn regions(&self) -> &Regions
-        ensures heap { heap_of result.now ≡ (world_of self.now).heap }
-        ensures count { result.now.count ≡ self.now.scene.regions }
-        ensures run { HoldRun self.now.scene self.now.journal }
+    /// The texture regions, with their ages. What the shared value keeps is said here too: its journal is a hold-run of its
+    /// scene.
+    pub fn regions(&self) -> &Regions
+        ensures heap { heap_of result.now ≡ (world_at self.now).heap }
+        ensures count { result.now.count ≡ (value_at self.now).scene.regions }
+        ensures run { HoldRun (value_at self.now).scene (value_at self.now).journal }
     {
-        &self.holdings.regions
+        let shared: &Shared = self.shared;
+        &shared.holdings.regions
     }
 }

@@ -7,27 +7,14 @@ ghost use Rattle.dri_base.specs.declared.colour.Rgb.{Rgb};
 ghost use Rattle.dri_base.specs.Ranges.{IsPlace, TriangleInRange};
 ghost use Rattle.dri_card.specs.Contents.{Holds, KeepSides, Shows};
 ghost use Rattle.dri_card.specs.Drawing.{OnlyDrawn, OnlyShown};
-ghost use Rattle.dri_model.specs.CommandWords.{IsTriangle, triangle_words};
-ghost use Rattle.dri_shared.specs.Drawing.{IsSameRect, IsScreen, IsShown, IsShownOn, OnlyDrawnOn, StayOn, cleared_in, drawn_in, swapped_in};
+ghost use Rattle.dri_shared.specs.Drawing.{IsScreen, OnlyDrawnOn, StayOn, cleared_in, drawn_in, swapped_in};
 
-use dri_base::{ClipRect, Point, Rect, Rgb, Steps, Triangle};
+use dri_base::{Point, Rgb, Steps, Triangle};
 use dri_card::Card;
+use dri_clips::clip_rect;
 use dri_cmdbuf::Buffer;
 use dri_rect::Region;
 use std::sync::ledger::{Blank, Ledger};
-
-/// A rectangle of the screen as the card takes it.
-pub(crate) fn clip_rect(rect: &Rect) -> ClipRect
-    requires { IsShown 1024 1024 rect.now }
-    ensures { IsSameRect rect.now result }
-{
-    ClipRect {
-        x1: rect.x1 as u16,
-        y1: rect.y1 as u16,
-        x2: rect.x2 as u16,
-        y2: rect.y2 as u16,
-    }
-}
 
 /// Writes a colour and a depth into each pixel of the clips. The steps are counted from the blank on.
 pub(crate) fn clear_clips<L: Ledger>(
@@ -72,29 +59,6 @@ pub(crate) fn swap_clips<L: Ledger>(blank: Blank, card: &mut Card, clips: &Regio
     }
 }
 
-/// Draws the buffer's triangle at each pixel of a rectangle.
-fn draw_rect<L: Ledger>(
-    card: &mut Card,
-    rect: &Rect,
-    origin: Point,
-    triangle: &Triangle,
-    buffer: &Buffer,
-    steps: &mut Steps<L>,
-)
-    requires screen { IsScreen card.old }
-    requires shown { IsShownOn card.old rect.now }
-    requires x { IsPlace origin.x }
-    requires y { IsPlace origin.y }
-    requires triangle { IsTriangle triangle.now }
-    requires words { buffer.now ≡ triangle_words triangle.now }
-    ensures held { (f : ℕ → ℕ → Pixel) → Holds card.old f → Holds card.new (drawn_in card.old origin triangle.now (rect.now ∷ []) f) }
-    ensures others { OnlyDrawnOn card.old card.new }
-    ensures sides { KeepSides card.old card.new }
-{
-    card.set_clip(clip_rect(rect)).unwrap();
-    card.dispatch(buffer, origin, steps).unwrap();
-}
-
 /// Draws a triangle at each pixel of the clips, with the card's registers and texture memory. The window's pixel is the
 /// screen's less the origin. The steps are counted from the blank on.
 pub(crate) fn draw_clips<L: Ledger>(
@@ -121,6 +85,7 @@ pub(crate) fn draw_clips<L: Ledger>(
     buffer.push_triangle(triangle).unwrap();
     clips.arranged();
     for i in 0..clips.len() {
-        draw_rect(card, &clips.rect(i), origin, triangle, &buffer, &mut steps);
+        card.set_clip(clip_rect(&clips.rect(i))).unwrap();
+        card.dispatch(&buffer, origin, &mut steps).unwrap();
     }
 }

@@ -11,7 +11,7 @@ ghost use Rattle.dri_shared.specs.Sides.{borrow_of, client_at, served_at, server
 ghost use Rattle.dri_shared.specs.States.{IsSameRun, world_of};
 
 use crate::client_side::ClientSide;
-use crate::holdings::Holdings;
+use crate::holdings::{Holdings, PLACES};
 use crate::server_side::ServerSide;
 use dri_base::{Entry, OutOfMemory, Rgb, Scene};
 use dri_card::Card;
@@ -59,7 +59,7 @@ impl Shared {
             card,
             board,
             regions,
-            places: [1; 33],
+            places: [1; PLACES],
             owner: 0,
             holder: None,
             left: 1,

@@ -4,8 +4,9 @@ use Rattle.std.specs.Prelude.{◌⊎◌, ◌==◌, ◌&&◌, ◌||◌, nat_lt, n
 use Rattle.std.proofs.lemmas.Bool.{true≢false, cases_eq, and_parts}
 use Rattle.std.proofs.lemmas.Bool.Decides.{nat_tests}
 use Rattle.dri_model.specs.Heaps.{Heap, leads_class, lowest_place, classes_for}
+use Rattle.dri_model.proofs.Counts.{how_many_all}
 use Rattle.dri_texheap.specs.Search.{is_available, are_available, lesser_age, least_age, classes_below, NowhereBefore, IsSought, IsChosen}
-use Rattle.dri_texheap.proofs.Counted.{any_none, how_many_all, how_many_none, how_many_one, least_none, least_at}
+use Rattle.dri_texheap.proofs.Counted.{any_none, how_many_none, how_many_one, least_none, least_at}
 use Rattle.dri_texheap.proofs.Classes.{leader, leader_used, one_leader, fits_is, no_place, place_is}
 
 -- one region that isn't available spoils each longer row

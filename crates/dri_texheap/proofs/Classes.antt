@@ -5,9 +5,9 @@ use Rattle.std.proofs.lemmas.Bool.{true≢false, and_parts, lt-ltb, le-ltb, ltb-
 use Rattle.std.proofs.lemmas.Bool.Decides.{nat_tests}
 use Rattle.dri_model.specs.Counting.{any_from}
 use Rattle.dri_model.specs.Heaps.{Heap, leads_class, older_classes, is_room, fits, lowest_place}
-use Rattle.dri_model.proofs.Counts.{some_from, none_from}
+use Rattle.dri_model.proofs.Counts.{some_from, none_from, any_same}
 use Rattle.dri_texheap.specs.Search.{is_available, are_available, classes_below, NowhereBefore}
-use Rattle.dri_texheap.proofs.Counted.{any_same, how_many_grows, how_many_more, least_none, least_at}
+use Rattle.dri_texheap.proofs.Counted.{how_many_grows, how_many_more, least_none, least_at}
 
 less_not : (a b : ℕ) → nat_lt a b ≡ false → b ≤ a
 less_not a b e = grind (arith, nat_tests)

@@ -5,10 +5,6 @@ use Rattle.std.proofs.lemmas.Bool.{true≢false, cases_eq}
 use Rattle.dri_model.specs.Counting.{any_from, how_many, least}
 use Rattle.dri_model.proofs.Counts.{none_from}
 
-pub any_same : (p q : ℕ → Bool) (first n : ℕ) → ((k : ℕ) → first ≤ k → k < first + n → p k ≡ q k) → any_from p first n ≡ any_from q first n
-any_same p q first zero h = refl
-any_same p q first (suc n) h = rw (h (first + n) (omega arith) (omega arith), any_same p q first n (λ k l m. h k l (omega arith))) refl
-
 pub any_none : (p : ℕ → Bool) (first n : ℕ) → ((k : ℕ) → first ≤ k → k < first + n → p k ≡ false) → any_from p first n ≡ false
 any_none p first zero h = refl
 any_none p first (suc n) h = rw (h (first + n) (omega arith) (omega arith), any_none p first n (λ k l m. h k l (omega arith))) refl
@@ -19,10 +15,6 @@ any_at p first n k l m e = by (any_from p first n) refl
     by : (b : Bool) → any_from p first n ≡ b → any_from p first n ≡ true
     by true h = h
     by false h = absurd (true≢false (sym e ∙ none_from p first n k h l m))
-
-pub how_many_all : (p : ℕ → Bool) (n : ℕ) → how_many p n ≤ n
-how_many_all p zero = omega arith
-how_many_all p (suc n) = grind (arith, how_many_all p n)
 
 pub how_many_none : (p : ℕ → Bool) (n : ℕ) → ((k : ℕ) → k < n → p k ≡ false) → how_many p n ≡ 0
 how_many_none p zero h = refl

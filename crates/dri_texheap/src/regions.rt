@@ -2,7 +2,7 @@
 //! from the most to the least recently used isn't kept: it is the order of the ages, and an entry's two links are found
 //! when it is read.
 
-ghost use Rattle.std.specs.Prelude.{◌≡◌, ◌<◌, ◌≤◌, ℕ, false, true, IsErr, IfOk, IfErr, ◌↔◌};
+ghost use Rattle.std.specs.Prelude.{◌≡◌, ◌<◌, ◌≤◌, ◌+◌, ℕ, false, true, IsErr, IfOk, IfErr, ◌↔◌};
 ghost use Rattle.dri_base.specs.Limits.{last_age};
 ghost use Rattle.dri_model.specs.Heaps.{any_in, is_newer, is_place_for, allocated, touched};
 ghost use Rattle.dri_texheap.specs.RegionStates.{heap_of, IsHeap, IsInside, IsInUse};
@@ -136,6 +136,25 @@ impl Regions {
             run.count as usize,
             self.age,
         );
+    }
+
+    /// The first region of the run that an allocation of k neighbouring regions would take. There are as many, and k is
+    /// at least one. The global age is at most 4,294,967,000.
+    pub fn place_for(&self, k: u32) -> u32
+        requires some { 1 ≤ k }
+        requires enough { k ≤ self.now.count }
+        requires age { (heap_of self.now).global ≤ last_age }
+        ensures place { is_place_for self.now.count (heap_of self.now) k result ≡ true }
+        ensures inside { result + k ≤ self.now.count }
+    {
+        let (_, first) = choose(
+            &self.used,
+            &self.ages,
+            self.count as usize,
+            self.age,
+            k as usize,
+        );
+        first as u32
     }
 
     /// Takes k neighbouring regions, at least one. As few age classes as make room for them are freed, the oldest first,

@@ -3,6 +3,7 @@ use Rattle.std.proofs.Common.{◌≡◌, ◌≢◌, ℕ, zero, suc, ◌+◌, Lis
 use Rattle.std.specs.Prelude.{Contains}
 use Rattle.std.specs.List.{All}
 use Rattle.std.proofs.lemmas.Bool.Decides.{nat_tests}
+use Rattle.std.proofs.lemmas.Option.{same_Some}
 use Rattle.dri_base.specs.Ranges.{client_numbers}
 use Rattle.dri_base.specs.declared.journal.Entry.{Entry}
 use Rattle.dri_base.specs.declared.scene.Scene.{Scene}
@@ -17,9 +18,6 @@ use Rattle.dri_shared.specs.States.{SharedState}
 use Rattle.dri_driver.specs.Clients.{ClientState}
 use Rattle.dri_threads.specs.Sessions.{IsSeated, Grows, Works, is_at_rest}
 use Rattle.dri_threads.specs.Actors.{Stands, IsFound}
-
-some_same : {A : Type 0} (a b : A) → Some a ≡ Some b → a ≡ b
-some_same a b e = cc
 
 cancel : (xs ys : List Entry) → xs ++ ys ≡ xs → ys ≡ []
 cancel [] ys e = e
@@ -62,7 +60,7 @@ seat_found t k v c st base begins own = record {
 }
   where
     scene : v.scene ≡ k.scene
-    scene = some_same v.scene k.scene (base ∙ st.base)
+    scene = same_Some v.scene k.scene (base ∙ st.base)
 
 -- a client stands by its pass after the hold
 pub stands_again : (t u : Token Scene Entry) (v w : SharedState) (k l : ClientState) (c : ℕ) → IsFound (c + 1) t v → IsSuccessor t u → u.seen ≡ w.journal → Works c v w k l → k.dying ≡ false → is_at_rest l.phase ≡ true → Stands u l c

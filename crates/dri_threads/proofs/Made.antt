@@ -10,28 +10,27 @@ use Rattle.dri_core.specs.Phases.{Phase}
 use Rattle.dri_core.specs.Runs.{after, client_of}
 use Rattle.dri_core.specs.Worlds.{World}
 use Rattle.dri_shared.specs.Copies.{IsToldOf, corner}
-use Rattle.dri_shared.specs.Sides.{value_at}
+use Rattle.dri_shared.specs.Sides.{client_at, value_at}
 use Rattle.dri_shared.specs.States.{SharedState, Added, IsSameRun, world_of}
 use Rattle.dri_shared.specs.declared.answers.Told.{Told}
 use Rattle.dri_shared.specs.declared.client_side.ClientSide.{ClientSide}
-use Rattle.dri_driver.specs.Acts.{IfRan}
 use Rattle.dri_driver.specs.Clients.{ClientState, part_of}
 use Rattle.dri_driver.specs.Fits.{Fits, HasMade}
 use Rattle.dri_driver.specs.Needs.{entries_left}
-use Rattle.dri_driver.specs.declared.answers.Acted.{Acted}
-use Rattle.dri_driver.specs.declared.answers.Acted.TheVariants.{Ran, MustLeave, Dies, Done}
 use Rattle.dri_driver.proofs.Fitting.{world_added}
-use Rattle.dri_threads.specs.Sessions.{IsSeated, Makes, Grows, Works, is_at_rest}
+use Rattle.dri_threads.specs.Sessions.{IsSeated, Makes, Grows, Works, WorksIn, is_at_rest}
 use Rattle.dri_threads.proofs.Working.{grows_none, grows_one, grows_more, works_none, works_made, works_more, seated_same, left_by, left_rests}
 
-pub makes_in : (k l : ClientState) (a b : ClientSide) (v w : SharedState) (e : Entry) → HasMade k l a b e → value_at a ≡ v → w ≡ value_at b → Makes v w k l e
-makes_in k l a b v w e made from to = subst (λ (x : SharedState). Makes v x k l e) (sym to) (subst (λ (x : SharedState). Makes x (value_at b) k l e) from (record { added = made.makes.added; fits = made.fits; same = made.same }))
+-- what a client made in its side, in the value
+pub makes_at : (k l : ClientState) (a b : ClientSide) (e : Entry) → HasMade k l a b e → Makes (value_at a) (value_at b) k l e
+makes_at k l a b e made = record { added = made.makes.added; fits = made.fits; same = made.same }
 
-pub acted_makes : (a : Acted) (k l : ClientState) (before after : ClientSide) (v w : SharedState) → IfRan a (HasMade k l before after) → value_at before ≡ v → w ≡ value_at after → IfRan a (Makes v w k l)
-acted_makes (Ran entry) k l before after v w made from to = makes_in k l before after v w entry made from to
-acted_makes MustLeave k l before after v w made from to = tt
-acted_makes Dies k l before after v w made from to = tt
-acted_makes Done k l before after v w made from to = tt
+-- the same, of values that the side was made of and has left
+pub makes_in : (k l : ClientState) (a b : ClientSide) (v w : SharedState) (e : Entry) → HasMade k l a b e → value_at a ≡ v → w ≡ value_at b → Makes v w k l e
+makes_in k l a b v w e made from to = subst (λ (x : SharedState). Makes v x k l e) (sym to) (subst (λ (x : SharedState). Makes x (value_at b) k l e) from (makes_at k l a b e made))
+
+pub works_at : (c : ℕ) (k l : ClientState) (a b : ClientSide) (v w : SharedState) → WorksIn a b k l → client_at a ≡ c → value_at a ≡ v → w ≡ value_at b → Works c v w k l
+works_at c k l a b v w worked client from to = subst (λ (x : SharedState). Works c v x k l) (sym to) (subst (λ (x : SharedState). Works c x (value_at b) k l) from (subst (λ (n : ℕ). Works n (value_at a) (value_at b) k l) client worked.works))
 
 pub informed : (v w : SharedState) (k l : ClientState) (c : ℕ) (told : Told) → IsSeated v k c → Added v w (Info c) → IsToldOf v.scene (world_of v) c told → l ≡ record k { phase = Phase_is.Out; stamp = told.stamp; clips = told.clips; origin = corner told.origin }
     → ((a b : SharedState) → Fits k a → Added a b (Info k.number) → IsToldOf a.scene (world_of a) k.number told → Fits l b) → Makes v w k l (Info c)
@@ -85,9 +84,25 @@ pub change_made : {A E : Type 0} (r : Result A E) (v u w : SharedState) → IsSa
 change_made (Ok a) v u w same added = ap (λ (x : World). x.made) (world_added u w _ added) ∙ λ i. (after (same.scene i) (same.journal i)).made + 1
 change_made (Err a) v u w same added = tt
 
--- a step of a client that acts
-pub acted_on : (c : ℕ) (u v w : SharedState) (j k l : ClientState) (e : Entry) → Works c u v j k → Makes v w k l e → client_of e ≡ c → Works c u w j l
-acted_on c u v w j k l e works made own = works_more c u v w j k l works (works_made c v w k l e works.seated made own)
+-- what a client made in its side is work in it
+pub made_in : (a b : ClientSide) (k l : ClientState) (e : Entry) → IsSeated (value_at a) k (client_at a) → HasMade k l a b e → client_of e ≡ client_at a → WorksIn a b k l
+made_in a b k l e seated made own = record { works = works_made (client_at a) (value_at a) (value_at b) k l e seated (makes_at k l a b e made) own; same = made.makes.same }
 
-pub room_on : (v w : SharedState) (k l : ClientState) (e : Entry) → Makes v w k l e → entries_left l + 1 ≤ entries_left k → entries_left k ≤ v.spare → entries_left l ≤ w.spare
-room_on v w k l e made falls room = let s = made.added.spare in omega arith
+pub more_in : (a b d : ClientSide) (j k l : ClientState) → WorksIn a b j k → WorksIn b d k l → WorksIn a d j l
+more_in a b d j k l p q = record {
+  works = works_more (client_at a) (value_at a) (value_at b) (value_at d) j k l p.works (subst (λ (n : ℕ). Works n (value_at b) (value_at d) k l) p.same.client q.works);
+  same = record { borrow = q.same.borrow ∙ p.same.borrow; client = q.same.client ∙ p.same.client };
+}
+
+-- who has worked in its side is seated there
+pub seated_in : (a b : ClientSide) (k l : ClientState) → WorksIn a b k l → IsSeated (value_at b) l (client_at b)
+seated_in a b k l worked = subst (IsSeated (value_at b) l) (sym worked.same.client) worked.works.seated
+
+-- a step of a client that acts
+pub acted_in : (a b d : ClientSide) (j k l : ClientState) (e : Entry) → WorksIn a b j k → HasMade k l b d e → client_of e ≡ k.number → WorksIn a d j l
+acted_in a b d j k l e worked made own =
+    let seated = seated_in a b j k worked in
+    more_in a b d j k l worked (made_in b d k l e seated made (own ∙ seated.numbered))
+
+pub room_in : (a b : ClientSide) (k l : ClientState) (e : Entry) → HasMade k l a b e → entries_left l + 1 ≤ entries_left k → entries_left k ≤ (value_at a).spare → entries_left l ≤ (value_at b).spare
+room_in a b k l e made falls room = let s = made.makes.added.spare in omega arith

@@ -3,7 +3,7 @@ use Rattle.std.proofs.Common.{◌≡◌, ◌≢◌, ◌⊎◌, ℕ, zero, suc, �
 use Rattle.std.proofs.lemmas.List.{length-map}
 use Rattle.std.specs.Prelude.{AllPairs, Contains, IfErr, IfOk, IfSome, Err, Ok, Result, option_to_list, slice_get, ◌-◌}
 use Rattle.dri_base.specs.declared.scene.ClientScript.{ClientScript}
-use Rattle.std.proofs.lemmas.Option.{get_or_from_slice_get, slice_get-get_or, slice_get_within}
+use Rattle.std.proofs.lemmas.Option.{get_or_from_slice_get, slice_get-get_or, slice_get_within, same_Some}
 use mathlib.Core.Option.{some}
 use lib.ListN.{get_elem?}
 use Rattle.dri_base.specs.Ranges.{InRange, client_numbers}
@@ -24,9 +24,6 @@ use Rattle.dri_driver.proofs.Openings.{number_at}
 use Rattle.dri_threads.specs.Sessions.{is_at_rest}
 use Rattle.dri_threads.specs.Actors.{IsNumber, Stands}
 use Rattle.dri_threads.specs.Rounds.{AreBelow, IsEnough, IsServed, AreServed}
-
-some_same : {A : Type 0} {a b : A} → Some a ≡ Some b → a ≡ b
-some_same e = cc
 
 before : {A : Type 0} (xs ys : List A) (i : ℕ) (a : A) → slice_get xs i ≡ Some a → slice_get (xs ++ ys) i ≡ Some a
 before [] ys i a e = absurd (grind arith)
@@ -74,7 +71,7 @@ last_below s n all ks k rising below is at = (
         or_more a b l = grind arith
 
         by : ((length ks ≡ i) ⊎ (length ks + 1 ≤ i)) → n ≤ c
-        by (inl e) = let same : n ≡ c = some_same (sym at ∙ (ap (slice_get (client_numbers s.clients)) e ∙ at_i)) in omega arith
+        by (inl e) = let same : n ≡ c = same_Some _ _ (sym at ∙ (ap (slice_get (client_numbers s.clients)) e ∙ at_i)) in omega arith
         by (inr l) = omega (arith, below.above i c at_i (omega (arith, long)))
 
 -- the last client isn't that of the number n, so the scene has none of this number
@@ -144,7 +141,7 @@ other_last s n count all p rising below long at ne = none_below s n all rising b
     other : (i c : ℕ) → i + 1 ≡ length all → slice_get (client_numbers s.clients) i ≡ Some c → c ≢ n
     other i c e at_i =
         let same : count - 1 ≡ i = omega (arith, long, e) in
-        let is : p.number ≡ c = some_same (sym (number_at s.clients (count - 1) p at) ∙ (ap (slice_get (client_numbers s.clients)) same ∙ at_i)) in λ h. ne (is ∙ h)
+        let is : p.number ≡ c = same_Some _ _ (sym (number_at s.clients (count - 1) p at) ∙ (ap (slice_get (client_numbers s.clients)) same ∙ at_i)) in λ h. ne (is ∙ h)
 
 pub popped_last : (s : Scene) (n count : ℕ) (all ks : List ClientState) (o : Option ClientState) (p : ClientScript) → AllPairs ◌<◌ (client_numbers s.clients) → AreBelow s (n + 1) all → count ≡ length all → slice_get s.clients (count - 1) ≡ Some p → p.number ≡ n → all ≡ ks ++ option_to_list o
     → IfSome o (λ k. AreBelow s n ks × IsOpening s n k × Contains (client_numbers s.clients) n)
@@ -168,7 +165,7 @@ pub number_within : (s : Scene) (c : ℕ) → InRange s → Contains (client_num
 number_within s c good has = by (slice_get s.clients has.0) refl
   where
     by : (o : Option ClientScript) → slice_get s.clients has.0 ≡ o → IsNumber c
-    by (Some p) at = subst IsNumber (some_same (sym (number_at s.clients has.0 p at) ∙ there (client_numbers s.clients) c has)) (number_in_range s has.0 p good at)
+    by (Some p) at = subst IsNumber (same_Some _ _ (sym (number_at s.clients has.0 p at) ∙ there (client_numbers s.clients) c has)) (number_in_range s has.0 p good at)
     by None at = absurd (omega (arith, has.1, length-map s.clients (λ (q : ClientScript). q.number), beyond s.clients has.0 at))
 
 pub number_below : (s : Scene) (n c : ℕ) → IsEnough s n → Contains (client_numbers s.clients) c → c < n
@@ -190,7 +187,7 @@ last_enough s count p good long at = record {
     by : (i d : ℕ) → i < length (client_numbers s.clients) → ((i + 1 ≡ count) ⊎ (i + 1 + 1 ≤ count)) → get_or (client_numbers s.clients) i d < p.number + 1
     by i d below (inl e) =
         let same : count - 1 ≡ i = omega (arith, e) in
-        let is : p.number ≡ get_or (client_numbers s.clients) i d = some_same (sym at_last ∙ (ap (slice_get (client_numbers s.clients)) same ∙ slice_get-get_or (client_numbers s.clients) i d below)) in
+        let is : p.number ≡ get_or (client_numbers s.clients) i d = same_Some _ _ (sym at_last ∙ (ap (slice_get (client_numbers s.clients)) same ∙ slice_get-get_or (client_numbers s.clients) i d below)) in
         omega (arith, is)
     by i d below (inr l) =
         let less = earlier (client_numbers s.clients) i (count - 1) (get_or (client_numbers s.clients) i d) p.number good.scripted.rising (slice_get-get_or (client_numbers s.clients) i d below) at_last (omega (arith, l)) in

@@ -1,5 +1,6 @@
 -- A client by its token, before a hold and after it.
 use Rattle.std.proofs.Common.{◌≡◌, ◌≢◌, ◌⊎◌, ℕ, ◌+◌, ◌<◌, length, true, false, Some, sym, ap, ◌∙◌, subst, arith}
+use Rattle.std.proofs.lemmas.Option.{same_Some}
 use Rattle.dri_base.specs.declared.journal.Entry.{Entry}
 use Rattle.dri_base.specs.declared.scene.Scene.{Scene}
 use Rattle.dri_hwlock.specs.Entries.{StartsWith, mine}
@@ -38,11 +39,8 @@ may_kernel c f word context left is of found other = subst (λ n. ((n ≡ 0) ⊎
 pub made_found : (s : Scene) (t : Token Scene Entry) (v : SharedState) → t.base ≡ Some s → t.context ≡ 1 → Some v.scene ≡ t.base → StartsWith v.journal t.seen → mine context_of t.context v.journal ≡ mine context_of t.context t.seen
     → (v.scene ≡ s) × ((world_of v).made ≡ (after s t.seen).made)
 made_found s t v base context found begins own =
-    let scene : v.scene ≡ s = some_same v.scene s (found ∙ base) in
+    let scene : v.scene ≡ s = same_Some v.scene s (found ∙ base) in
     (scene, (λ i. (after (scene i) v.journal).made) ∙ made_later s t.seen v.journal begins (subst (λ x. mine context_of x v.journal ≡ mine context_of x t.seen) context own))
-  where
-    some_same : (a b : Scene) → Some a ≡ Some b → a ≡ b
-    some_same a b e = cc
 
 pub made_again : (s : Scene) (t u : Token Scene Entry) (v w : SharedState) → v.scene ≡ s → (world_of v).made ≡ (after s t.seen).made → Grows 1 v w → (world_of w).made ≡ (world_of v).made + 1 → u.seen ≡ w.journal → (after s u.seen).made ≡ (after s t.seen).made + 1
 made_again s t u v w scene made grows more seen = (λ i. (after (sym (grows.scene ∙ scene) i) (seen i)).made) ∙ (more ∙ ap (λ n. n + 1) made)

@@ -4,7 +4,7 @@ use Rattle.dri_base.specs.Ranges.{IsWithin}
 use Rattle.dri_base.specs.declared.journal.Entry.{Entry}
 use Rattle.dri_base.specs.declared.scene.Scene.{Scene}
 use Rattle.dri_hwlock.specs.Tokens.{Token}
-use Rattle.dri_core.specs.Phases.{Phase, Out, Asking, Old, In, Over, Ask, Ended, Dead}
+use Rattle.dri_core.specs.Phases.{Phase, Out, Asking}
 use Rattle.dri_shared.specs.States.{SharedState}
 use Rattle.dri_driver.specs.Clients.{ClientState}
 use Rattle.dri_threads.specs.Sessions.{IsSeated, is_at_rest}
@@ -37,9 +37,4 @@ pub record IsFound (x : ℕ) (t : Token Scene Entry) (v : SharedState) : Type 0 
 abbrev pub want_in : Phase → Want
 want_in Out = Act
 want_in Asking = Learn
-want_in Old = Nothing
-want_in In = Nothing
-want_in Over = Nothing
-want_in Ask = Nothing
-want_in Ended = Nothing
-want_in Dead = Nothing
+want_in phase = Nothing

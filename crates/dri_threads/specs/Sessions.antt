@@ -2,11 +2,13 @@
 use Rattle.std.specs.Prelude.{◌≡◌, ◌≢◌, ◌≤◌, ◌⊎◌, ℕ, ◌+◌, Bool, true, false, None, Contains}
 use Rattle.dri_base.specs.Ranges.{client_numbers}
 use Rattle.dri_base.specs.declared.journal.Entry.{Entry}
-use Rattle.dri_core.specs.Phases.{Phase, Out, Old, In, Over, Ask, Asking, Ended, Dead}
+use Rattle.dri_core.specs.Phases.{Phase, Out, Asking, Ended, Dead}
 use Rattle.dri_core.specs.Runs.{context_of}
 use Rattle.dri_core.specs.Worlds.{World}
 use Rattle.dri_hwlock.specs.Entries.{Adds}
+use Rattle.dri_shared.specs.Sides.{IsSameSide, client_at, value_at}
 use Rattle.dri_shared.specs.States.{SharedState, Added, world_of}
+use Rattle.dri_shared.specs.declared.client_side.ClientSide.{ClientSide}
 use Rattle.dri_driver.specs.Clients.{ClientState}
 use Rattle.dri_driver.specs.Fits.{Fits, IsSameClient}
 use Rattle.dri_threads.specs.declared.session.Entrance.{Entrance}
@@ -18,10 +20,7 @@ is_at_rest Out = true
 is_at_rest Asking = true
 is_at_rest Ended = true
 is_at_rest Dead = true
-is_at_rest Old = false
-is_at_rest In = false
-is_at_rest Over = false
-is_at_rest Ask = false
+is_at_rest phase = false
 
 -- the client of this number is one of the scene, and fits the journal
 pub record IsSeated (v : SharedState) (k : ClientState) (c : ℕ) : Type 0 where
@@ -45,6 +44,11 @@ pub record Works (c : ℕ) (v w : SharedState) (k l : ClientState) : Type 0 wher
   pub grows : Grows (c + 1) v w
   pub seated : IsSeated w l c
   pub same : IsSameClient k l
+
+-- the client of a side has worked in it, and the side is the same
+pub record WorksIn (before after : ClientSide) (k l : ClientState) : Type 0 where
+  pub works : Works (client_at before) (value_at before) (value_at after) k l
+  pub same : IsSameSide before after
 
 -- client c may come in in this way
 abbrev pub MayEnter : ℕ → World → Entrance → Type 0

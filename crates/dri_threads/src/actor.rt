@@ -39,24 +39,23 @@ pub(crate) fn run_client<R: Wait, T: Gate>(
     rt: &R,
     stage: &Stage<'_, T>,
     pass: Pass<Shared>,
-    client: Client,
+    client: &mut Client,
     number: u32,
 ) -> Result<Pass<Shared>, Short>
     requires own { (pass_token pass).lock ≡ id_of stage.now.hw.now }
     requires number { IsNumber number }
-    requires stands { Stands (pass_token pass) client number }
+    requires stands { Stands (pass_token pass) client.old number }
     ensures next { IfOk result (λ p. IsSuccessor (pass_token pass) (pass_token p)) }
-    ensures done { IfOk result (λ p. is_done ((after client.scene (pass_token p).seen).client number).phase ≡ true) }
+    ensures done { IfOk result (λ p. is_done ((after client.old.scene (pass_token p).seen).client number).phase ≡ true) }
     ensures short { IfErr result (λ short. IsSuccessor (pass_token pass) (pass_token short.pass)) }
 {
     let mut pass = pass;
-    let mut client = client;
     for _ in rt.forever() {
-        let want = want_of(&client);
+        let want = want_of(client);
         if want == Want::Nothing {
             return Ok(pass);
         }
-        pass = next_hold(rt, stage, pass, &mut client, number, want)?;
+        pass = next_hold(rt, stage, pass, client, number, want)?;
     }
     unreachable!()
 }

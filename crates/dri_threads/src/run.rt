@@ -137,7 +137,8 @@ fn run_beside<R: Threads + Wait + Sync, T: Gate + Sync>(
                         hw,
                         kernel,
                     };
-                    run_client(rt, &stage, pass, client, number)
+                    let mut client = client;
+                    run_client(rt, &stage, pass, &mut client, number)
                 },
                 move || -> Finished
                     requires { IsSync R.row × InRange scene.now × AreNew (id_of hw.now) scene.now 1 (passes_in passes) × (0 < length (passes_in passes)) × AreBelow scene.now (length (passes_in passes)) clients }

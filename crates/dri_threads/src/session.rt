@@ -1,20 +1,22 @@
 //! A session: what an actor does in one hold, to the value and to its client. It looks whether somebody holds in the
-//! journal, makes room for all entries of the hold, passes the gate, and makes the entries.
+//! journal, makes room for all entries of the hold, passes the gate, and makes the entries. A client comes in and acts in
+//! one side of the value.
 
 ghost use Rattle.std.specs.Prelude.{◌≡◌, ◌≤◌, ◌<◌, ◌+◌, ◌⊎◌, length, false, true, None, IfOk, OnOk};
 ghost use Rattle.dri_core.specs.Phases as Phase_is;
+ghost use Rattle.dri_shared.specs.Sides.{client_at, value_at, world_at};
 ghost use Rattle.dri_shared.specs.States.{IsSameRun, world_of};
 ghost use Rattle.dri_driver.specs.Acts.{IsActing, IsAtDeath};
 ghost use Rattle.dri_driver.specs.Checks.{phase_checked};
 ghost use Rattle.dri_driver.specs.Needs.{entries_left, need_of};
-ghost use Rattle.dri_threads.specs.Sessions.{IsReady, IsSeated, Works, Grows, MayEnter, is_at_rest};
+ghost use Rattle.dri_threads.specs.Sessions.{IsReady, IsSeated, Works, WorksIn, Grows, MayEnter, is_at_rest};
 ghost use Rattle.dri_threads.specs.declared.session.Exit.TheVariants as Exit_is;
 
-use crate::events::{act, bury, change, enter_by_kernel, enter_lightly, inform, leave, say_stale};
+use crate::events::{bury, change, inform};
 use crate::gate::{Gate, GatePoint};
 use dri_base::OutOfMemory;
 use dri_driver::{Acted, Checked, Client};
-use dri_shared::Shared;
+use dri_shared::{ClientSide, Shared};
 use std::alloc::Global;
 
 /// The server's number, as the gate and the kernel's queue know it.
@@ -54,7 +56,9 @@ pub(crate) fn acting_session<T: Gate>(
     ensures left { IfOk result (λ exit. exit ≡ Exit_is.Leave → (world_of shared.new).left ≡ number + 1) }
 {
     begin(gate, shared, number, client.need())?;
-    let exit = work(shared, client, number, entrance);
+    let mut side = shared.client_side(number);
+    let exit = work(&mut side, client, entrance);
+    drop(side);
     go(alloc, shared, client, number, exit)?;
     Ok(exit)
 }
@@ -114,56 +118,56 @@ fn begin<T: Gate>(
 }
 
 /// The client comes in, and acts, or says that its stamp is old. The answer is how it is to go.
-fn work(shared: &mut Shared, client: &mut Client, number: u32, entrance: Entrance) -> Exit
-    requires seated { IsSeated shared.old client.old number }
+fn work(side: &mut ClientSide<'_>, client: &mut Client, entrance: Entrance) -> Exit
+    requires seated { IsSeated (value_at side.old) client.old (client_at side.old) }
     requires out { client.old.phase ≡ Phase_is.Out }
-    requires ready { IsReady shared.old (need_of client.old) }
-    requires may { MayEnter number (world_of shared.old) entrance }
-    ensures works { Works number shared.old shared.new client.old client.new }
+    requires ready { IsReady (value_at side.old) (need_of client.old) }
+    requires may { MayEnter (client_at side.old) (world_at side.old) entrance }
+    ensures works { WorksIn side.old side.new client.old client.new }
     ensures leaves { result ≡ Exit_is.Leave → (client.new.phase ≡ Phase_is.Over) ⊎ (client.new.phase ≡ Phase_is.Ask) }
     ensures dies { result ≡ Exit_is.Die → IsAtDeath client.new }
-    ensures room { 1 ≤ shared.new.spare }
+    ensures room { 1 ≤ (value_at side.new).spare }
 {
-    match enter(shared, client, number, entrance) {
-        Checked::Go => act_on(shared, client, number),
+    match enter(side, client, entrance) {
+        Checked::Go => act_on(side, client),
         Checked::Stale => {
-            say_stale(shared, client, number);
+            client.stale(side);
             Exit::Leave
         }
     }
 }
 
 /// The client comes in, and finds its stamp current or old.
-fn enter(shared: &mut Shared, client: &mut Client, number: u32, entrance: Entrance) -> Checked
-    requires seated { IsSeated shared.old client.old number }
+fn enter(side: &mut ClientSide<'_>, client: &mut Client, entrance: Entrance) -> Checked
+    requires seated { IsSeated (value_at side.old) client.old (client_at side.old) }
     requires out { client.old.phase ≡ Phase_is.Out }
-    requires ready { IsReady shared.old (need_of client.old) }
-    requires may { MayEnter number (world_of shared.old) entrance }
-    ensures works { Works number shared.old shared.new client.old client.new }
+    requires ready { IsReady (value_at side.old) (need_of client.old) }
+    requires may { MayEnter (client_at side.old) (world_at side.old) entrance }
+    ensures works { WorksIn side.old side.new client.old client.new }
     ensures phase { client.new.phase ≡ phase_checked result }
-    ensures room { entries_left client.new ≤ shared.new.spare }
+    ensures room { entries_left client.new ≤ (value_at side.new).spare }
 {
     match entrance {
         Entrance::Light => {
-            enter_lightly(shared, client, number);
+            client.after_light(side);
             Checked::Go
         }
-        Entrance::Kernel { found } => enter_by_kernel(shared, client, number, found),
+        Entrance::Kernel { found } => client.after_kernel(side, found),
     }
 }
 
 /// The client acts until it must leave, or its next command is its death.
-fn act_on(shared: &mut Shared, client: &mut Client, number: u32) -> Exit
-    requires seated { IsSeated shared.old client.old number }
+fn act_on(side: &mut ClientSide<'_>, client: &mut Client) -> Exit
+    requires seated { IsSeated (value_at side.old) client.old (client_at side.old) }
     requires acting { IsActing client.old }
-    requires room { entries_left client.old ≤ shared.old.spare }
-    ensures works { Works number shared.old shared.new client.old client.new }
+    requires room { entries_left client.old ≤ (value_at side.old).spare }
+    ensures works { WorksIn side.old side.new client.old client.new }
     ensures leaves { result ≡ Exit_is.Leave → client.new.phase ≡ Phase_is.Over }
     ensures dies { result ≡ Exit_is.Die → IsAtDeath client.new }
-    ensures room { 1 ≤ shared.new.spare }
+    ensures room { 1 ≤ (value_at side.new).spare }
 {
     loop {
-        match act(shared, client, number) {
+        match client.act(side) {
             Acted::Ran { entry: _ } => {}
             Acted::MustLeave | Acted::Done => return Exit::Leave,
             Acted::Dies => return Exit::Die,
@@ -191,7 +195,9 @@ fn go(
 {
     match exit {
         Exit::Leave => {
-            leave(shared, client, number);
+            let mut side = shared.client_side(number);
+            client.leave(&mut side);
+            drop(side);
             Ok(())
         }
         Exit::Die => bury(alloc, shared, client, number),

@@ -1,17 +1,18 @@
 //! A whole run, from the opening of the lock to its close.
 
-ghost use Rattle.std.specs.Prelude.{◌≡◌, ◌≤◌, IfOk, IsFalse};
+ghost use Rattle.std.specs.Prelude.{◌≡◌, ◌≤◌, length, IfOk, IsFalse};
 ghost use Rattle.std.specs.Arc.{arc_value};
 ghost use Rattle.dri_base.specs.Ranges.{InRange};
 ghost use Rattle.dri_core.specs.Frames.{Own, SoloLeft};
 ghost use Rattle.dri_core.specs.Runs.{Confined, HoldRun, Whole};
+ghost use Rattle.dri_hwlock.specs.Tokens.{AreNew, id_of, opening_value, pass_count, passes_in};
 ghost use Rattle.dri_threads.specs.Rounds.{IsEnough};
 
 use crate::drivers::drivers_of;
 use crate::gate::Gate;
 use crate::run::{Finished, run_actors};
 use dri_base::{OutOfMemory, Scene};
-use dri_hwlock::HwLock;
+use dri_hwlock::{HwLock, Passes};
 use dri_kernel::Kernel;
 use dri_shared::Shared;
 use std::alloc::Global;
@@ -44,10 +45,7 @@ pub fn run_clients<R: Threads + Wait + Sync, T: Gate + Sync>(
     ensures whole { IfOk result (λ r. IsFalse r.short → Whole (arc_value scene.now) r.shared.journal) }
 {
     let clients = drivers_of(alloc, scene)?;
-    let shared = Shared::new(alloc, scene.clone()?)?;
-    let Ok((hw, passes)) = HwLock::new(alloc, shared, passes_for(scene)) else {
-        return Err(OutOfMemory);
-    };
+    let (hw, passes) = lock_over(alloc, scene)?;
     let kernel = Kernel::new();
     let Finished { passes, short } = run_actors(
         rt, alloc, gate, scene, &hw, &kernel, passes, clients,
@@ -55,6 +53,24 @@ pub fn run_clients<R: Threads + Wait + Sync, T: Gate + Sync>(
     let shared = hw.close(passes);
     let _journal = shared.journal();
     Ok(Closed { shared, short })
+}
+
+/// The lock over the value of a scene, with enough passes.
+fn lock_over(
+    alloc: Global,
+    scene: &Arc<Scene, Global>,
+) -> Result<(HwLock<Shared>, Passes<Shared>), OutOfMemory>
+    requires { InRange (arc_value scene.now) }
+    ensures base { IfOk result (λ r. (opening_value r.0).scene ≡ arc_value scene.now) }
+    ensures passes { IfOk result (λ r. AreNew (id_of r.0) (arc_value scene.now) 1 (passes_in r.1)) }
+    ensures count { IfOk result (λ r. length (passes_in r.1) ≡ pass_count r.0) }
+    ensures enough { IfOk result (λ r. IsEnough (arc_value scene.now) (length (passes_in r.1))) }
+{
+    let shared = Shared::new(alloc, scene.clone()?)?;
+    match HwLock::new(alloc, shared, passes_for(scene)) {
+        Ok(made) => Ok(made),
+        Err(_) => Err(OutOfMemory),
+    }
 }
 
 /// The least number of passes that is enough: one more than the greatest client's number.

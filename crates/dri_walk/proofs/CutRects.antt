@@ -10,7 +10,7 @@ use Rattle.dri_base.specs.declared.shape.Point.{Point}
 use Rattle.dri_base.specs.declared.shape.Rect.{Rect}
 use Rattle.dri_base.specs.declared.shape.Triangle.{Triangle}
 use Rattle.dri_base.specs.Coverage.{covers}
-use Rattle.dri_model.specs.Stacks.{has_pixel}
+use Rattle.dri_model.specs.Stacks.{window_has}
 use Rattle.dri_base.specs.Planes.{in_rect}
 use Rattle.dri_raster.specs.Spans.{in_bounds}
 use Rattle.dri_walk.specs.Clips.{HoldSame}
@@ -48,7 +48,7 @@ between low high p q k n m cuts cuts' from to = rw (cuts k from to, before q k m
 
 -- the pixels of the screen that a window has
 pub window_cut : (w : Window) (r : ClipRect) (width height a b : ℕ) → Cuts 0 width r.x1 w.x → Cuts 0 height r.y1 w.y
-    → Cuts 0 width r.x2 (w.x +ℤ pos w.width) → Cuts 0 height r.y2 (w.y +ℤ pos w.height) → a < width → b < height → in_rect r a b ≡ has_pixel w a b
+    → Cuts 0 width r.x2 (w.x +ℤ pos w.width) → Cuts 0 height r.y2 (w.y +ℤ pos w.height) → a < width → b < height → in_rect r a b ≡ window_has w a b
 window_cut w r width height a b c1 c2 c3 c4 la lb =
     rw (between 0 width r.x1 r.x2 a _ _ c1 c3 (omega arith) la, between 0 height r.y1 r.y2 b _ _ c2 c4 (omega arith) lb) refl
 

@@ -1,3 +1,4 @@
+pub mod Counts
 pub mod CutRects
 pub mod Painting
 pub mod Ready

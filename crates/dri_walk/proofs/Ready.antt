@@ -1,14 +1,15 @@
 -- A brush that goes on along its row.
-use Rattle.std.proofs.Common.{◌≡◌, ℕ, ◌+◌, ◌<◌, ℤ, pos, ◌+ℤ◌, ◌-ℤ◌, true, w32, FitsSigned, to_z, of_z, ap, ◌∙◌, subst, arith}
+use Rattle.std.proofs.Common.{◌≡◌, ℕ, ◌+◌, ◌<◌, ℤ, pos, ◌+ℤ◌, ◌-ℤ◌, Bool, true, Option, Some, None, refl, w32, FitsSigned, to_z, of_z, ap, ◌∙◌, subst, arith}
 use Rattle.std.proofs.lemmas.Int.{ints, to_z-of_z}
 use Rattle.dri_base.specs.declared.shape.Triangle.{Triangle}
 use Rattle.dri_base.specs.Coverage.{covers}
 use Rattle.dri_base.specs.Ranges.{IsPlace}
 use Rattle.dri_raster.specs.declared.channel.Channel.{Channel}
-use Rattle.dri_raster.specs.declared.channel.Channel.TheVariants.{Z}
 use Rattle.dri_raster.specs.Edges.{IsPixel}
 use Rattle.dri_raster.specs.Standing.{Standing}
-use Rattle.dri_walk.specs.Rows.{IsAt, IsReady}
+use Rattle.dri_walk.specs.Rows.{CanStep, IsAt, IsDepthAt, IsReady, one_on}
+use Rattle.dri_raster.specs.declared.channel.Channel.TheVariants.{Z}
+use Rattle.dri_walk.specs.declared.depth_test.DepthTest.{DepthTest}
 
 -- numbers that fit are what their words spell
 pub place_plain : (n : ℤ) → IsPlace n → to_z w32 (of_z w32 n) ≡ n
@@ -38,24 +39,29 @@ pub next_column : (x : ℕ) (left : ℤ) → (pos x -ℤ left) +ℤ pos 1 ≡ po
 next_column x left = omega (arith, ints)
 
 -- the next pixel is covered
-pub next_covered : (colours : Triangle → ℤ → ℤ → Type 0) (t : Triangle) (z : Standing) (left row : ℤ) (x end : ℕ) → IsReady colours t z left row x end → x + 1 < end → covers t ((pos x -ℤ left) +ℤ pos 1) row ≡ true
-next_covered colours t z left row x end ready more = ap (λ n. covers t n row) (next_column x left) ∙ ready.covered (x + 1) (omega arith) more
-
--- and so it is for the depth's runner
-pub next_for_depth : (colours : Triangle → ℤ → ℤ → Type 0) (t : Triangle) (z : Standing) (left row : ℤ) (x end : ℕ) → IsReady colours t z left row x end → x + 1 < end → covers z.triangle (z.x +ℤ pos 1) z.y ≡ true
-next_for_depth colours t z left row x end ready more = ap (λ (v : Standing). covers v.triangle (v.x +ℤ pos 1) v.y) ready.depth_at ∙ next_covered colours t z left row x end ready more
+pub next_covered : (colours : Triangle → ℤ → ℤ → Type 0) (test : DepthTest) (write : Bool) (t : Triangle) (z : Option Standing) (left row : ℤ) (x end : ℕ) → IsReady colours test write t z left row x end → x + 1 < end → covers t ((pos x -ℤ left) +ℤ pos 1) row ≡ true
+next_covered colours test write t z left row x end ready more = ap (λ n. covers t n row) (next_column x left) ∙ ready.covered (x + 1) (omega arith) more
 
 -- a runner that has stepped
 pub runs_on : (runner new : Standing) (channel : Channel) (t : Triangle) (x y : ℤ) → IsAt runner channel t x y → new ≡ record runner { x = runner.x +ℤ pos 1 } → IsAt new channel t (x +ℤ pos 1) y
 runs_on runner new channel t x y at step = step ∙ ap (λ (v : Standing). record v { x = v.x +ℤ pos 1 }) at
 
+-- the depth's runner can step, and stands at the next column
+pub can_step : (test : DepthTest) (write : Bool) (z : Option Standing) (t : Triangle) (x y : ℤ) → IsDepthAt test write z t x y → covers t (x +ℤ pos 1) y ≡ true → CanStep z
+can_step test write None t x y at covered = tt
+can_step test write (Some z) t x y at covered = ap (λ (v : Standing). covers v.triangle (v.x +ℤ pos 1) v.y) at ∙ covered
+
+pub deeper_on : (test : DepthTest) (write : Bool) (z : Option Standing) (t : Triangle) (x y : ℤ) → IsDepthAt test write z t x y → IsDepthAt test write (one_on z) t (x +ℤ pos 1) y
+deeper_on test write None t x y at = at
+deeper_on test write (Some z) t x y at = runs_on z (record z { x = z.x +ℤ pos 1 }) Z t x y at refl
+
 -- the brush stands at the next column
-pub goes_on : (colours after : Triangle → ℤ → ℤ → Type 0) (t : Triangle) (z next : Standing) (left row : ℤ) (x end : ℕ) → IsReady colours t z left row x end → next ≡ record z { x = z.x +ℤ pos 1 }
-    → after t ((pos x -ℤ left) +ℤ pos 1) row → IsReady after t next left row (x + 1) end
-goes_on colours after t z next left row x end ready step coloured = record {
+pub goes_on : (colours after : Triangle → ℤ → ℤ → Type 0) (test : DepthTest) (write : Bool) (t : Triangle) (z next : Option Standing) (left row : ℤ) (x end : ℕ) → IsReady colours test write t z left row x end
+    → IsDepthAt test write next t ((pos x -ℤ left) +ℤ pos 1) row → after t ((pos x -ℤ left) +ℤ pos 1) row → IsReady after test write t next left row (x + 1) end
+goes_on colours after test write t z next left row x end ready deep coloured = record {
   place = ready.place;
   near = ready.near;
-  depth_at = runs_on z next Z t (pos x -ℤ left) row ready.depth_at step ∙ (λ i. record { triangle = t; channel = Z; x = next_column x left i; y = row });
+  depth_at = subst (λ n. IsDepthAt test write next t n row) (next_column x left) deep;
   colours_at = subst (λ n. after t n row) (next_column x left) coloured;
   covered = λ a from until. ready.covered a (omega (arith, from)) until;
 }

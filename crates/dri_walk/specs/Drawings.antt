@@ -1,5 +1,5 @@
 -- What a triangle leaves on a surface.
-use Rattle.std.specs.Prelude.{ℕ, ℤ, pos, ◌-ℤ◌, Bool, nat_lt, if◌then◌else◌, Option, Some, None}
+use Rattle.std.specs.Prelude.{ℕ, ℤ, pos, ◌-ℤ◌, Bool, ◌&&◌, nat_lt, if◌then◌else◌, Option, Some, None}
 use Rattle.dri_base.specs.declared.colour.Rgba.{Rgba}
 use Rattle.dri_base.specs.declared.colour.Pixel.{Pixel}
 use Rattle.dri_base.specs.declared.shape.ClipRect.{ClipRect}
@@ -44,6 +44,14 @@ own_colour (Some colour) t x y = colour
 -- the depth test draws z over a depth
 abbrev pub is_drawn : DepthTest → ℕ → ℕ → Bool
 is_drawn d z depth = if nat_lt z depth then d.below else (if nat_lt depth z then d.above else d.equal)
+
+-- it draws every z over every depth
+abbrev pub draws_all : DepthTest → Bool
+draws_all d = d.below && (d.equal && d.above)
+
+-- the depth that is left where z is drawn over a depth; none where it isn't drawn
+abbrev pub depth_left : DepthTest → Bool → ℕ → ℕ → Option ℕ
+depth_left test write z depth = if is_drawn test z depth then Some (if write then z else depth) else None
 
 -- the colour that a texture makes of another at the quantities s and t
 abbrev pub turned : Texture → ℕ → ℕ → Rgba → Rgba

@@ -1,5 +1,6 @@
 pub mod Surfaces
 pub mod Clips
 pub mod Samplings
-pub mod Rows
+pub mod Samplers
 pub mod Drawings
+pub mod Rows

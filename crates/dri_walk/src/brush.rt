@@ -2,19 +2,19 @@
 //! needs. The depth is tested before anything else is worked out.
 
 ghost use Rattle.std.specs.Prelude.{◌≡◌, ◌≤◌, ◌<◌, ◌+◌, ℕ, ℤ, pos, ◌+ℤ◌, ◌-ℤ◌, true, IsTrue, if◌then◌else◌};
-ghost use Rattle.dri_base.specs.Coverage.{covers};
+ghost use Rattle.dri_base.specs.Coverage.{covers, quantity};
 ghost use Rattle.dri_base.specs.Ranges.{IsPlace};
 ghost use Rattle.dri_raster.specs.Edges.{IsPixel};
-ghost use Rattle.dri_walk.specs.Drawings.{painted};
-ghost use Rattle.dri_walk.specs.Rows.{IsReady};
+ghost use Rattle.dri_walk.specs.Drawings.{depth_left, painted};
+ghost use Rattle.dri_walk.specs.Rows.{CanStep, IsDepthAt, IsReady, one_on};
 
 use crate::blending::Blending;
 use crate::colouring::{ColourRow, Colouring};
 use crate::depth_test::DepthTest;
 use crate::drawing::Drawing;
-use crate::surface::Painter;
 use dri_base::Pixel;
-use dri_raster::{Channel, Runner, Setup};
+use dri_plane::Painter;
+use dri_raster::{Runner, Setup};
 use std::marker::PhantomData;
 
 /// A triangle's painter along a run of the window's row `row`, whose column 0 is the screen's column `left`.
@@ -23,7 +23,7 @@ pub struct Brush<'a, B, R> {
     pub setup: &'a Setup,
     pub depth_test: DepthTest,
     pub depth_write: bool,
-    pub z: Runner<'a>,
+    pub z: Option<Runner<'a>>,
     pub colours: R,
     pub left: i32,
     pub row: i32,
@@ -53,7 +53,7 @@ pub fn brush_at<'a, B: Blending, C: Colouring>(
     requires near { IsPixel row }
     requires some { x < end }
     requires covered { (a : ℕ) → x ≤ a → a < end → covers drawing.now.setup (pos a -ℤ left) row ≡ true }
-    ensures ready { IsReady (C.Row.stands result.colours) result.setup.now result.z result.left result.row x result.end }
+    ensures ready { IsReady (C.Row.stands result.colours) result.depth_test result.depth_write result.setup.now result.z result.left result.row x result.end }
     ensures setup { result.setup.now ≡ drawing.now.setup }
     ensures depth_test { result.depth_test ≡ drawing.now.depth_test }
     ensures depth_write { result.depth_write ≡ drawing.now.depth_write }
@@ -68,7 +68,7 @@ pub fn brush_at<'a, B: Blending, C: Colouring>(
         setup,
         depth_test: drawing.depth_test,
         depth_write: drawing.depth_write,
-        z: setup.runner(Channel::Z, column, row),
+        z: drawing.depth_runner(column, row),
         colours: colouring.start(setup, column, row),
         left,
         row,
@@ -77,41 +77,57 @@ pub fn brush_at<'a, B: Blending, C: Colouring>(
     }
 }
 
+/// The depth's runner goes on to the next column, where there is one.
+#[inline(always)]
+fn step_depth(z: &mut Option<Runner<'_>>)
+    requires { CanStep z.old }
+    ensures { z.new ≡ one_on z.old }
+{
+    if let Some(z) = z {
+        z.step();
+    }
+}
+
 impl<'a, B, R> Brush<'a, B, R> {
-    /// The depth that is left where `z` is drawn over a depth.
+    /// The depth that is left over the one under it at column x, where it stands; `None` where nothing is drawn.
     #[inline(always)]
-    fn depth_over(&self, z: u16, under: u16) -> u16
-        ensures { result ≡ (if self.now.depth_write then z else under) }
+    fn depth_over(&self, x: i32, under: u16) -> Option<u16>
+        requires { IsDepthAt self.now.depth_test self.now.depth_write self.now.z self.now.setup.now x self.now.row }
+        ensures { result ≡ depth_left self.now.depth_test self.now.depth_write (quantity self.now.setup.now (λ v. v.z) x self.now.row) under }
     {
-        if self.depth_write { z } else { under }
+        let Some(z) = &self.z else {
+            return Some(under);
+        };
+        let z = z.value() as u16;
+        if !self.depth_test.passes(z, under) {
+            return None;
+        }
+        Some(if self.depth_write { z } else { under })
     }
 }
 
 impl<'a, B: Blending, R: ColourRow> Painter for Brush<'a, B, R> {
     ghost end = { λ it. it.end };
 
-    ghost ready = { λ it x. IsReady (R.stands it.colours) it.setup.now it.z it.left it.row x it.end };
+    ghost ready = { λ it x. IsReady (R.stands it.colours) it.depth_test it.depth_write it.setup.now it.z it.left it.row x it.end };
 
     ghost paints = { λ it x under. painted it.depth_test it.depth_write (R.colour_at it.colours) B.blend it.setup.now (pos x -ℤ it.left) it.row under };
 
     #[inline(always)]
     fn paint(&self, x: u16, under: Pixel) -> Option<Pixel> {
-        let z = self.z.value() as u16;
-        if !self.depth_test.passes(z, under.depth) {
-            return None;
-        }
         let column = window_column(x, self.left);
+        let depth = self.depth_over(column, under.depth)?;
         let colour = self.colours.colour(self.setup, column, self.row);
         Some(Pixel {
             colour: B::blended(colour, under.colour),
-            depth: self.depth_over(z, under.depth),
+            depth,
         })
     }
 
     #[inline(always)]
     fn step(&mut self, x: u16) {
         let column = window_column(x, self.left);
-        self.z.step();
+        step_depth(&mut self.z);
         self.colours.step(self.setup, column, self.row);
     }
 }

@@ -33,6 +33,8 @@ pub fn narrowed(clip: &ClipRect, scissor: &Option<ClipRect>, origin: Point) -> C
     requires rows { clip.now.y1 ≤ clip.now.y2 }
     ensures places { IsNarrowed clip.now scissor.now origin result }
     ensures inside { IsInside result clip.now.x2 clip.now.y2 }
+    ensures left { clip.now.x1 ≤ result.x1 }
+    ensures top { clip.now.y1 ≤ result.y1 }
 {
     let Some(scissor) = scissor else {
         return *clip;

@@ -2,7 +2,7 @@
 
 ghost use Rattle.std.specs.Prelude.{◌≡◌, ℕ};
 ghost use Rattle.dri_base.specs.Fragments.{passes};
-ghost use Rattle.dri_walk.specs.Drawings.{is_drawn};
+ghost use Rattle.dri_walk.specs.Drawings.{draws_all, is_drawn};
 
 use dri_base::DepthFunc;
 
@@ -34,6 +34,13 @@ impl DepthTest {
             equal,
             above,
         }
+    }
+
+    /// Whether every depth is drawn over any.
+    pub fn is_always(self) -> bool
+        ensures { result ≡ draws_all self }
+    {
+        self.below && self.equal && self.above
     }
 
     /// Whether `z` is drawn over a depth.

@@ -3,13 +3,15 @@
 //! depth function is three flags, of which a pixel's depth says the one that counts, and whether depth is written is a
 //! flag too: no pixel looks at the registers.
 
-ghost use Rattle.std.specs.Prelude.{◌≡◌, ℕ, length, IsNone, IfSome, ◌↔◌, pos};
-ghost use Rattle.dri_base.specs.Coverage.{area};
+ghost use Rattle.std.specs.Prelude.{◌≡◌, ◌≤◌, ◌+◌, ◌*◌, ℕ, length, IsNone, IfSome, IsTrue, ◌↔◌, pos};
+ghost use Rattle.dri_base.specs.Coverage.{area, covers};
 ghost use Rattle.dri_base.specs.Ranges.{IsPlace, TriangleInRange};
 ghost use Rattle.dri_model.specs.Words.{IsBoundInRange, IsScissorInRange, card_image, rules_in};
 ghost use Rattle.dri_base.specs.Planes.{in_rect};
 ghost use Rattle.dri_plane.specs.Grids.{IsInside};
+ghost use Rattle.dri_walk.specs.Clips.{covered_places};
 ghost use Rattle.dri_walk.specs.Drawings.{after_drawing, fragment_kept, pair_by, pair_left, turned_at, unscissored};
+ghost use Rattle.dri_walk.specs.Rows.{IsDepthAt};
 ghost use Rattle.dri_walk.specs.Samplings.{IsImageWithin, byte_in};
 ghost use Rattle.dri_walk.specs.Surfaces.{PairsBecome, drawn_at};
 
@@ -20,13 +22,14 @@ use crate::depth_test::DepthTest;
 use crate::sampler::Texture;
 use crate::surface::Surface;
 use dri_base::{Blend, ClipRect, Pixel, Point, Registers, Rgba, Shade, Steps, Triangle};
-use dri_raster::Setup;
+use dri_raster::{Channel, Runner, Setup};
 use dri_texel::pixel_rule;
 use std::sync::ledger::Ledger;
 
 /// Draws a triangle by the registers and the texture memory, at each place of the clip on the surface. The window's pixel is
 /// the screen's less the origin, the window's upper left corner, whose coordinates are -1,024 to 1,024. The clip lies within
-/// the surface, whose sides are at most 1,024.
+/// the surface, whose sides are at most 1,024. It takes at most four steps a place of the clip whose pixel the triangle covers;
+/// a scissor only leaves some out.
 pub fn draw_triangle<S: Surface, L: Ledger>(
     surface: &mut S,
     registers: &Registers,
@@ -47,6 +50,7 @@ pub fn draw_triangle<S: Surface, L: Ledger>(
     ensures pairs { PairsBecome S.holds surface.old surface.new (after_drawing S.kept (rules_in registers.now) (card_image (byte_in memory.now) registers.now.bound) triangle.now clip.now origin) }
     ensures width { S.width surface.new ≡ S.width surface.old }
     ensures height { S.height surface.new ≡ S.height surface.old }
+    ensures bound { steps.new ≤ steps.old + 4 * covered_places triangle.now clip.now origin }
 {
     if let Some(drawing) = Drawing::new(registers, memory, triangle) {
         let rect = narrowed(clip, &registers.scissor, origin);
@@ -73,6 +77,7 @@ impl<'a> Drawing<'a> {
         requires bound { IsBoundInRange registers.now.bound }
         requires within { IsImageWithin (length memory.now) registers.now.bound }
         ensures none { IsNone result ↔ (area triangle.now ≡ pos 0) }
+        ensures setup { IfSome result (λ drawing. drawing.setup ≡ triangle.now) }
         ensures some { IfSome result (λ drawing. (kept : Pixel → Pixel) → pair_left kept drawing ≡ fragment_kept kept (unscissored registers.now) (card_image (byte_in memory.now) registers.now.bound) triangle.now) }
     {
         pixel_rule();
@@ -90,6 +95,19 @@ impl<'a> Drawing<'a> {
         })
     }
 
+    /// A runner of the depth that stands at pixel (x, y), which the triangle covers; `None` where every depth is drawn and none
+    /// is written.
+    #[inline(always)]
+    pub fn depth_runner(&self, x: i32, y: i32) -> Option<Runner<'_>>
+        requires { IsTrue (covers self.now.setup x y) }
+        ensures { IsDepthAt self.now.depth_test self.now.depth_write result self.now.setup x y }
+    {
+        if self.depth_test.is_always() && !self.depth_write {
+            return None;
+        }
+        Some(self.setup.runner(Channel::Z, x, y))
+    }
+
     /// Draws at each place of a rectangle of the surface. The origin is the window's upper left corner on the screen.
     fn draw<S: Surface, L: Ledger>(
         &self,
@@ -105,6 +123,7 @@ impl<'a> Drawing<'a> {
         ensures pairs { PairsBecome S.holds surface.old surface.new (drawn_at (in_rect rect.now) origin (pair_left S.kept self.now)) }
         ensures width { S.width surface.new ≡ S.width surface.old }
         ensures height { S.height surface.new ≡ S.height surface.old }
+        ensures bound { steps.new ≤ steps.old + 4 * covered_places self.now.setup rect.now origin }
     {
         match self.flat {
             Some(colour) => self.draw_own(&Flat { colour }, surface, origin, rect, steps),
@@ -129,6 +148,7 @@ impl<'a> Drawing<'a> {
         ensures pairs { PairsBecome S.holds surface.old surface.new (drawn_at (in_rect rect.now) origin (pair_by S.kept self.now (turned_at self.now.texture (C.colours own.now)) self.now.blend)) }
         ensures width { S.width surface.new ≡ S.width surface.old }
         ensures height { S.height surface.new ≡ S.height surface.old }
+        ensures bound { steps.new ≤ steps.old + 4 * covered_places self.now.setup rect.now origin }
     {
         match &self.texture {
             Texture::Off => self.draw_coloured(own, surface, origin, rect, steps),
@@ -168,6 +188,7 @@ impl<'a> Drawing<'a> {
         ensures pairs { PairsBecome S.holds surface.old surface.new (drawn_at (in_rect rect.now) origin (pair_by S.kept self.now (C.colours colouring.now) self.now.blend)) }
         ensures width { S.width surface.new ≡ S.width surface.old }
         ensures height { S.height surface.new ≡ S.height surface.old }
+        ensures bound { steps.new ≤ steps.old + 4 * covered_places self.now.setup rect.now origin }
     {
         match self.blend {
             Blend::Off => {

@@ -15,4 +15,4 @@ mod surface;
 
 pub use clipping::nearest;
 pub use drawing::draw_triangle;
-pub use surface::{Painter, Surface};
+pub use surface::Surface;

@@ -1,11 +1,11 @@
 //! The walk of a drawing over a rectangle, for each way to colour and to blend. Only rows between the triangle's corners are
 //! visited, and of each only the span that the triangle covers.
 
-ghost use Rattle.std.specs.Prelude.{◌≡◌, ◌≤◌, ◌<◌, ℕ, ℤ, pos, ◌+ℤ◌, ◌-ℤ◌, ◌≤ℤ◌};
+ghost use Rattle.std.specs.Prelude.{◌≡◌, ◌≤◌, ◌<◌, ◌+◌, ◌*◌, ℕ, ℤ, pos, ◌+ℤ◌, ◌-ℤ◌, ◌≤ℤ◌};
 ghost use Rattle.dri_base.specs.Ranges.{IsPlace};
 ghost use Rattle.dri_base.specs.Planes.{in_rect};
 ghost use Rattle.dri_plane.specs.Grids.{IsInside};
-ghost use Rattle.dri_walk.specs.Clips.{HoldSame, in_window};
+ghost use Rattle.dri_walk.specs.Clips.{HoldSame, covered_in_row, covered_places, in_window};
 ghost use Rattle.dri_walk.specs.Drawings.{pair_by};
 ghost use Rattle.dri_walk.specs.Surfaces.{PairsBecome, drawn_at, in_row};
 
@@ -20,7 +20,7 @@ use dri_raster::Setup;
 use std::sync::ledger::Ledger;
 
 impl<'a> Drawing<'a> {
-    /// Draws at each place of a rectangle.
+    /// Draws at each place of a rectangle. It takes at most four steps a place whose pixel the triangle covers.
     pub fn draw_rows<B: Blending, C: Colouring, S: Surface, L: Ledger>(
         &self,
         colouring: &C,
@@ -37,6 +37,7 @@ impl<'a> Drawing<'a> {
         ensures pairs { PairsBecome S.holds surface.old surface.new (drawn_at (in_rect rect.now) origin (pair_by S.kept self.now (C.colours colouring.now) B.blend)) }
         ensures width { S.width surface.new ≡ S.width surface.old }
         ensures height { S.height surface.new ≡ S.height surface.old }
+        ensures bound { steps.new ≤ steps.old + 4 * covered_places self.now.setup rect.now origin }
     {
         let framed = framed(&self.setup, rect, origin);
         self.draw_framed::<B, C, S, L>(colouring, surface, origin, &framed, steps);
@@ -59,6 +60,7 @@ impl<'a> Drawing<'a> {
         ensures pairs { PairsBecome S.holds surface.old surface.new (drawn_at (in_rect rect.now) origin (pair_by S.kept self.now (C.colours colouring.now) B.blend)) }
         ensures width { S.width surface.new ≡ S.width surface.old }
         ensures height { S.height surface.new ≡ S.height surface.old }
+        ensures bound { steps.new ≤ steps.old + 4 * covered_places self.now.setup rect.now origin }
     {
         for y in rect.y1..rect.y2 {
             self.draw_row::<B, C, S, L>(colouring, surface, origin, rect, y, steps);
@@ -85,6 +87,7 @@ impl<'a> Drawing<'a> {
         ensures pairs { PairsBecome S.holds surface.old surface.new (drawn_at (in_row y rect.now.x1 rect.now.x2) origin (pair_by S.kept self.now (C.colours colouring.now) B.blend)) }
         ensures width { S.width surface.new ≡ S.width surface.old }
         ensures height { S.height surface.new ≡ S.height surface.old }
+        ensures bound { steps.new ≤ steps.old + 4 * covered_in_row self.now.setup rect.now origin y }
     {
         let row = less(y, origin.y);
         let Some(span) = self.setup.span(row, &windowed(rect, origin)) else {
@@ -105,6 +108,9 @@ fn framed(setup: &Setup, rect: &ClipRect, origin: Point) -> ClipRect
     requires rows { rect.now.y1 ≤ rect.now.y2 }
     ensures same { HoldSame setup.now origin result rect.now }
     ensures inside { IsInside result rect.now.x2 rect.now.y2 }
+    ensures left { result.x1 ≡ rect.now.x1 }
+    ensures right { result.x2 ≡ rect.now.x2 }
+    ensures top { rect.now.y1 ≤ result.y1 }
 {
     let frame = setup.frame();
     let y1 = nearest(frame.y1 + origin.y, rect.y1, rect.y2);

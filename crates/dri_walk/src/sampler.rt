@@ -1,15 +1,15 @@
 //! The texture that a triangle is drawn with: where its image lies in the texture memory, what is beyond its sides, and what
 //! its texels do to the triangle's colour.
 
-ghost use Rattle.std.specs.Prelude.{◌≡◌, ℕ, length};
+ghost use Rattle.std.specs.Prelude.{◌≡◌, ◌≤◌, ℕ, Some, length};
 ghost use Rattle.dri_base.specs.declared.colour.Rgba.{Rgba};
 ghost use Rattle.dri_model.specs.Words.{IsBoundInRange, card_image};
 ghost use Rattle.dri_texel.specs.Pixels.{coloured, texel_used};
 ghost use Rattle.dri_walk.specs.Drawings.{turned};
-ghost use Rattle.dri_walk.specs.Samplings.{IsImageWithin, byte_in, sampled};
+ghost use Rattle.dri_walk.specs.Samplings.{IsImageWithin, Sampling, byte_in, sampled};
 
 use dri_base::{BoundTexture, Registers, Rgb, TexMode, Wrap};
-use dri_texel::fetch;
+use dri_texel::{Side, texel_at};
 use std::marker::Model;
 
 /// An image in the texture memory. Contracts see the memory's bytes, where the image begins, its shape, and the wrapping.
@@ -18,33 +18,52 @@ pub struct Sampler<'a> {
     memory: &'a [u8],
     bound: BoundTexture,
     wrap: Wrap,
+    columns: Side,
+    rows: Side,
 }
 
 impl<'a> Model for Sampler<'a> {
-    ghost use Rattle.std.specs.Prelude.{length, Some};
-    ghost use Rattle.dri_model.specs.Words.{IsBoundInRange};
-    ghost use Rattle.dri_walk.specs.Samplings.{IsImageWithin, Sampling};
+    ghost use Rattle.dri_walk.specs.Samplings.{Sampling};
+    ghost use Rattle.dri_walk.specs.Samplers.{IsSampler, sampling};
 
     ghost Value = { Sampling };
 
-    ghost view = { λ s. record { memory = s.memory.now; bound = s.bound; wrap = s.wrap } };
+    ghost view = { sampling };
 
-    ghost invariant = { λ s. IsBoundInRange (Some s.bound) × IsImageWithin (length s.memory.now) (Some s.bound) };
+    ghost invariant = { IsSampler };
 }
 
 impl<'a> Sampler<'a> {
-    /// The texel at the coordinates `s` and `t`, in sixteenths of a texel.
+    /// A bound image has sides of 1 to 256 and lies within the memory.
+    fn new(memory: &'a [u8], bound: BoundTexture, wrap: Wrap) -> Sampler<'a>
+        requires bound { IsBoundInRange (Some bound) }
+        requires within { IsImageWithin (length memory.now) (Some bound) }
+        ensures { result ≡ record { memory = memory.now; bound = bound; wrap = wrap } }
+    {
+        Sampler {
+            memory,
+            bound,
+            wrap,
+            columns: Side::new(wrap, bound.shape.width),
+            rows: Side::new(wrap, bound.shape.height),
+        }
+    }
+
+    /// The texel at the coordinates `s` and `t`, in sixteenths of a texel, each at most 65,535.
     #[inline(always)]
     pub fn texel_at(&self, s: u32, t: u32) -> Rgb
+        requires s { s ≤ 65535 }
+        requires t { t ≤ 65535 }
         ensures { result ≡ sampled self.now s t }
     {
-        fetch(
+        let shape = &self.bound.shape;
+        let row = self.rows.wrapped(t / 16);
+        let column = self.columns.wrapped(s / 16);
+        texel_at(
             self.memory,
             self.bound.base,
-            &self.bound.shape,
-            self.wrap,
-            s,
-            t,
+            shape,
+            row * shape.width + column,
         )
     }
 }
@@ -71,16 +90,8 @@ impl<'a> Texture<'a> {
         let wrap = registers.wrap;
         match registers.tex_mode {
             TexMode::Off => Texture::Off,
-            TexMode::Replace => Texture::Replace(Sampler {
-                memory,
-                bound,
-                wrap,
-            }),
-            TexMode::Modulate => Texture::Modulate(Sampler {
-                memory,
-                bound,
-                wrap,
-            }),
+            TexMode::Replace => Texture::Replace(Sampler::new(memory, bound, wrap)),
+            TexMode::Modulate => Texture::Modulate(Sampler::new(memory, bound, wrap)),
         }
     }
 }

@@ -1,33 +1,13 @@
-//! What triangles are drawn on, and what draws along a row of it.
+//! What triangles are drawn on.
 
-ghost use Rattle.std.specs.Prelude.{◌≡◌, ◌≤◌, ◌<◌, ◌+◌, ◌-◌, ◌*◌, ℕ, Option};
+ghost use Rattle.std.specs.Prelude.{◌≡◌, ◌≤◌, ◌<◌, ◌+◌, ◌-◌, ◌*◌, ℕ};
 ghost use Rattle.dri_base.specs.declared.colour.Pixel.{Pixel};
-ghost use Rattle.dri_walk.specs.Surfaces.{PairsBecome, run_painted};
+ghost use Rattle.dri_plane.specs.Runs.{run_painted};
+ghost use Rattle.dri_walk.specs.Surfaces.{PairsBecome};
 
-use dri_base::{Pixel, Steps};
+use dri_base::Steps;
+use dri_plane::Painter;
 use std::sync::ledger::Ledger;
-
-/// What paints the pixels of a row, from left to right. It stands at a column, and goes on to the next one before its end.
-pub trait Painter {
-    ghost end: { Self → ℕ };
-
-    ghost ready: { Self → ℕ → Type 0 };
-
-    ghost paints: { Self → ℕ → Pixel → Option Pixel };
-
-    /// What is painted at column x, where it stands, over the pair under it; `None` where that pair stays.
-    fn paint(&self, x: u16, under: Pixel) -> Option<Pixel>
-        requires { ready self.now x }
-        ensures { result ≡ paints self.now x under };
-
-    /// Goes on from column x, where it stands, to the next.
-    fn step(&mut self, x: u16)
-        requires ready { ready self.old x }
-        requires more { x + 1 < end self.old }
-        ensures ready { ready self.new (x + 1) }
-        ensures paints { paints self.new ≡ paints self.old }
-        ensures end { end self.new ≡ end self.old };
-}
 
 /// A surface of pairs of a colour and a depth, one for each place, whose accesses are counted. What a place keeps of a pair
 /// that is written may be less than the pair: `kept`.

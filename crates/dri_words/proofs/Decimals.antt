@@ -7,6 +7,7 @@ use Rattle.std.proofs.lemmas.Fmt.{decimal_digit, decimal_by_steps, decimal_step,
 use Rattle.std.specs.Char.{is_ascii_digit}
 use Rattle.std.specs.Prelude.{◌&&◌, nat_lt}
 use Rattle.std.specs.Fmt.{decimal}
+use Rattle.std.proofs.lemmas.Option.{same_Some}
 use Rattle.dri_words.specs.Parts.{is_nil}
 use Rattle.dri_words.specs.Words.{◌>>=◌, NumbersAreDecimal, digits_from, number_of}
 
@@ -61,15 +62,12 @@ record Digit (c n : ℕ) : Type 0 where
 digit_told : (c n : ℕ) → (is_ascii_digit c && nat_lt n 1000000000) ≡ true → Digit c n
 digit_told c n told = record { value = c - 48; is = grind (arith, nat_tests); small = grind (arith, nat_tests); below = grind (arith, nat_tests) }
 
-some_same : {m n : ℕ} → Some m ≡ Some n → m ≡ n
-some_same is = cc
-
 none_some : {n : ℕ} → None ≡ Some n → ⊥
 none_some is = cc
 
 -- the digits behind a number's go on to the digits of the whole
 goes_on : (ds : List ℕ) (m n : ℕ) → 0 < m → m < 10000000000 → digits_from m ds ≡ Some n → (n < 10000000000) × (decimal m ++ ds ≡ decimal n)
-goes_on [] m n some small is = let same = some_same is in (subst (λ k. k < 10000000000) same small, append-nil (decimal m) ∙ ap decimal same)
+goes_on [] m n some small is = let same = same_Some _ _ is in (subst (λ k. k < 10000000000) same small, append-nil (decimal m) ∙ ap decimal same)
 goes_on (c ∷ cs) m n some small is = told (λ k. goes_on cs k n) (is_ascii_digit c && nat_lt m 1000000000) refl where
   told : ((k : ℕ) → 0 < k → k < 10000000000 → digits_from k cs ≡ Some n → (n < 10000000000) × (decimal k ++ cs ≡ decimal n)) → (b : Bool) → (is_ascii_digit c && nat_lt m 1000000000) ≡ b → (n < 10000000000) × (decimal m ++ c ∷ cs ≡ decimal n)
   told further false test = absurd (none_some (rw test at is))
@@ -105,7 +103,7 @@ spelled (c ∷ cs) n is = elim (eqb_tells c 48) as (λ _. (n < 10000000000) × (
   | inr other ↦ first_digit c cs n other.1 (rw other.0 at is)
 ] where
   alone : (cs : List ℕ) → cond (is_nil cs) (Some 0) None ≡ Some n → c ≡ 48 → (n < 10000000000) × (c ∷ cs ≡ decimal n)
-  alone [] zero_is zero_byte = let none = some_same zero_is in (omega (arith, none), ap (λ k. k ∷ []) zero_byte ∙ sym (decimal_digit 0 (omega arith)) ∙ ap decimal none)
+  alone [] zero_is zero_byte = let none = same_Some _ _ zero_is in (omega (arith, none), ap (λ k. k ∷ []) zero_byte ∙ sym (decimal_digit 0 (omega arith)) ∙ ap decimal none)
   alone (d ∷ ds) none zero_byte = absurd (none_some none)
 
 -- both ways

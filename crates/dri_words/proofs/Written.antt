@@ -20,13 +20,7 @@ first_above (suc n) small = let first = first_decimal (suc n) (omega arith) (ome
 pub unsigned_read : (n : ℕ) → n < 10000000000 → signed_of (decimal n) ≡ Some (pos n)
 unsigned_read n small = digits_signed (decimal n) n (first_above n small) (decimal_read n small)
 
--- a written number of either sign
-pub signed_read : (z : ℤ) (n : ℕ) → n < 10000000000 → z ≡ pos n → signed_of (signed_decimal z) ≡ Some z
-signed_read (pos m) n small is = unsigned_read m (rw is_same small) where
-  is_same : m ≡ n
-  is_same = cc
-signed_read (negsuc m) n small is = absurd (cc)
-
+-- a written number below 0
 pub negative_read : (m : ℕ) → suc m < 10000000000 → signed_of (signed_decimal (negsuc m)) ≡ Some (negsuc m)
 negative_read m small = ap (λ (o : Option ℕ). o >>= λ n. cond (eqb n 0) None (Some (neg_ℤ (pos n)))) (decimal_read (suc m) small)
     ∙ ap (λ t. cond t None (Some (negsuc m))) (ne_eqb (suc m) 0 (λ e. omega (arith, e)))

@@ -1,6 +1,7 @@
 //! The lines of a text that are passed over, and the end of a text.
 
 ghost use Rattle.std.specs.Prelude.{◌≡◌, ◌≤◌, ◌+◌};
+ghost use Rattle.dri_base.specs.Limits.{word_end};
 ghost use Rattle.dri_words.specs.Lines.{ends, is_passed_over, text_size};
 
 use crate::parts::Parts;
@@ -27,7 +28,7 @@ pub fn is_passed_over(line: &[u8]) -> bool
 /// Reads the lines that are left, of which the first has the number `first`. It is refused where one of them isn't passed
 /// over, or where something stands behind the last newline.
 pub fn to_end(mut rest: Parts<'_>, first: u32) -> Result<(), Refusal>
-    requires { first + text_size rest ≤ 4294967296 }
+    requires { first + text_size rest ≤ word_end }
     ensures { result ≡ ends first rest.entry }
 {
     let mut number = first;

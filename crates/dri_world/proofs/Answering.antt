@@ -12,6 +12,7 @@ use Rattle.dri_base.specs.Scenes.{is_named, kills_in}
 use Rattle.dri_base.specs.declared.command.Item.{Item}
 use Rattle.dri_base.specs.declared.command.Item.TheVariants.{Kill, Turn}
 use Rattle.dri_base.specs.declared.journal.Event.{Event}
+use Rattle.dri_base.specs.declared.scene.ClientScript.{ClientScript}
 use Rattle.dri_base.specs.declared.scene.Scene.{Scene}
 use Rattle.dri_base.proofs.RangeLemmas.{well_formed}
 use Rattle.dri_driver.specs.Clients.{ClientState}
@@ -41,26 +42,20 @@ pub record ClientAt (s : Scene) (es : List Event) (t : Site) (ks : List ClientSt
   pub client : slice_get ks i ≡ Some k
 
 -- the place of a script is one of a client
-pub within : (s : Scene) (es : List Event) (t : Site) (ks : List ClientState) (w : Course) (i n : ℕ) → IsHeld s es t ks → record { scene = s; events = es } ≡ w → slice_get (client_numbers w.scene.clients) i ≡ Some n → i < length ks
-within s es t ks w i n held view at_i =
-    let at : slice_get (client_numbers s.clients) i ≡ Some n = subst (λ (x : Course). slice_get (client_numbers x.scene.clients) i ≡ Some n) (sym view) at_i in
-    omega (arith, slice_get_within (client_numbers s.clients) i n at, held.clients.number)
-
-pub stands_at : (s : Scene) (es : List Event) (t : Site) (v' : SharedState) (ks : List ClientState) (w : Course) (i n : ℕ) (k : ClientState) → IsHeld s es t ks → IsSameRun t.shared v' → record { scene = s; events = es } ≡ w →
-    slice_get (client_numbers w.scene.clients) i ≡ Some n → k ≡ get_or ks i k → ClientAt s es (record { shared = v'; lock = t.lock }) ks i n k
-stands_at s es t v' ks w i n k held same view at_i is = record {
-  held = same_run s es t v' ks held same;
-  number = subst (λ (x : Course). slice_get (client_numbers x.scene.clients) i ≡ Some n) (sym view) at_i;
-  client = slice_get_read ks (length ks) i k refl (within s es t ks w i n held view at_i) is;
-}
-
--- the same, where the place is one of the scene's own scripts
 pub within_scene : (s : Scene) (es : List Event) (t : Site) (ks : List ClientState) (i n : ℕ) → IsHeld s es t ks → slice_get (client_numbers s.clients) i ≡ Some n → i < length ks
-within_scene s es t ks i n held at_i = within s es t ks (record { scene = s; events = es }) i n held refl at_i
+within_scene s es t ks i n held at_i = omega (arith, slice_get_within (client_numbers s.clients) i n at_i, held.clients.number)
 
 pub stands_in : (s : Scene) (es : List Event) (t : Site) (v' : SharedState) (ks : List ClientState) (i n : ℕ) (k : ClientState) → IsHeld s es t ks → IsSameRun t.shared v' →
     slice_get (client_numbers s.clients) i ≡ Some n → k ≡ get_or ks i k → ClientAt s es (record { shared = v'; lock = t.lock }) ks i n k
-stands_in s es t v' ks i n k held same at_i is = stands_at s es t v' ks (record { scene = s; events = es }) i n k held same refl at_i is
+stands_in s es t v' ks i n k held same at_i is = record {
+  held = same_run s es t v' ks held same;
+  number = at_i;
+  client = slice_get_read ks (length ks) i k refl (within_scene s es t ks i n held at_i) is;
+}
+
+-- the place of a number among the scene's
+pub placed : (s t : Scene) (ps : List ClientScript) (i n : ℕ) → t ≡ s → ps ≡ t.clients → slice_get (client_numbers ps) i ≡ Some n → slice_get (client_numbers s.clients) i ≡ Some n
+placed s t ps i n same own at = subst (λ (qs : List ClientScript). slice_get (client_numbers qs) i ≡ Some n) (own ∙ ap (λ (x : Scene). x.clients) same) at
 
 -- a client that the schedule kills is one of the scene's
 pub named_there : (numbers : List ℕ) (items : List Item) (c : ℕ) → All (ItemInRange numbers) items → kills_in items c ≡ true → Contains numbers c

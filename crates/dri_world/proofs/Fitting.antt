@@ -11,12 +11,10 @@ use Rattle.dri_base.specs.declared.journal.Event.{Event}
 use Rattle.dri_base.specs.declared.journal.Event.TheVariants.{Emit, Run, Info, Gone}
 use Rattle.dri_base.specs.declared.scene.Scene.{Scene}
 use Rattle.std.proofs.lemmas.List.{append-nil}
-use Rattle.dri_driver.specs.Acts.{IfRan, event_of}
-use Rattle.dri_driver.specs.declared.answers.Acted.{Acted}
-use Rattle.dri_driver.specs.declared.answers.Acted.TheVariants.{Ran, MustLeave, Dies, Done}
-use Rattle.dri_shared.specs.Sides.{value_at}
+use Rattle.dri_driver.specs.Acts.{event_of, next_event}
+use Rattle.dri_shared.specs.Sides.{value_at, world_at}
 use Rattle.dri_shared.specs.declared.client_side.ClientSide.{ClientSide}
-use Rattle.dri_driver.specs.Clients.{ClientState}
+use Rattle.dri_driver.specs.Clients.{ClientState, next_command}
 use Rattle.dri_driver.specs.Fits.{Fits, HasMade, IsSameClient}
 use Rattle.dri_core.specs.EventTable.{leaves}
 use Rattle.dri_core.specs.Phases as Phase_is
@@ -96,11 +94,11 @@ still_acts s w c (Some (Triangle t)) alive = by_texture (textured_with (w.client
         by_run None h = rw h refl
         by_run (Some r) h = rw h emits
 
-pub still_is : (s : Scene) (w : World) (c : ℕ) (command : Option Command) (e : Event) → (command ≡ Some Die → ⊥) → acting_turn s w c command ≡ Some e → is_still e ≡ true
+still_is : (s : Scene) (w : World) (c : ℕ) (command : Option Command) (e : Event) → (command ≡ Some Die → ⊥) → acting_turn s w c command ≡ Some e → is_still e ≡ true
 still_is s w c command e alive h = sym (ap still_of h) ∙ still_acts s w c command alive
 
 -- a client that made such an event
-pub ran_brings : (t t' : Site) (k k' : ClientState) (e : Entry) → Added t.shared t'.shared e → t'.lock ≡ t.lock → Fits k' t'.shared → IsSameClient k k' → is_still (event_of e) ≡ true → Brings (Some (event_of e)) t t' k k'
+ran_brings : (t t' : Site) (k k' : ClientState) (e : Entry) → Added t.shared t'.shared e → t'.lock ≡ t.lock → Fits k' t'.shared → IsSameClient k k' → is_still (event_of e) ≡ true → Brings (Some (event_of e)) t t' k k'
 ran_brings t t' k k' (Entry_is.Emit c groups) added lock fits same still = record { site = record { scene = added.scene; journal = added.journal; word = ap (λ (l : Lock). l.word) lock; queue = ap (λ (l : Lock). l.queue) lock }; numbered = same.number; fits = fits; dying = same.dying }
 ran_brings t t' k k' (Entry_is.Place c u first count) added lock fits same still = record { site = record { scene = added.scene; journal = added.journal; word = ap (λ (l : Lock). l.word) lock; queue = ap (λ (l : Lock). l.queue) lock }; numbered = same.number; fits = fits; dying = same.dying }
 ran_brings t t' k k' (Entry_is.Run c i) added lock fits same still = record { site = record { scene = added.scene; journal = added.journal; word = ap (λ (l : Lock). l.word) lock; queue = ap (λ (l : Lock). l.queue) lock }; numbered = same.number; fits = fits; dying = same.dying }
@@ -134,9 +132,13 @@ wait_brings t l' k c o seated is word queue entry = record {
   dying = sym (waits_live t.shared.scene (core_at t k.dying) c k.number o is);
 }
 
--- who made an event in its side fits the value that the side leaves
-pub acted_fits : (a : Acted) (k k' : ClientState) (before after : ClientSide) (v' : SharedState) → IfRan a (HasMade k k' before after) → v' ≡ value_at after → IfRan a (λ e. Fits k' v')
-acted_fits (Ran entry) k k' before after v' made same = subst (Fits k') (sym same) made.fits
-acted_fits MustLeave k k' before after v' made same = tt
-acted_fits Dies k k' before after v' made same = tt
-acted_fits Done k k' before after v' made same = tt
+-- a client that made such an event in its side
+pub ran_in : (t : Site) (v' : SharedState) (k k' : ClientState) (a b : ClientSide) (e : Entry) → HasMade k k' a b e → value_at a ≡ t.shared → v' ≡ value_at b → is_still (event_of e) ≡ true →
+    Brings (Some (event_of e)) t (record { shared = v'; lock = t.lock }) k k'
+ran_in t v' k k' a b e made from to still =
+    ran_brings t (record { shared = v'; lock = t.lock }) k k' e
+    (subst (λ (x : SharedState). Added x v' e) from (subst (λ (x : SharedState). Added (value_at a) x e) (sym to) made.makes.added)) refl (subst (Fits k') (sym to) made.fits) made.same still
+
+-- such an event, told of the side, is the client's next one
+pub still_in : (k : ClientState) (a : ClientSide) (e : Event) → (next_command k ≡ Some Die → ⊥) → next_event k (world_at a) ≡ Some e → is_still e ≡ true
+still_in k a e alive event = still_is k.scene (world_at a) k.number (next_command k) e alive event

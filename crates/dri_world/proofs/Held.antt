@@ -4,7 +4,7 @@ use Rattle.std.specs.Prelude.{◌⊎◌, if◌then◌else◌, slice_get}
 use Rattle.std.proofs.Math.ListN.{set, length-set}
 use Rattle.std.proofs.lemmas.Bool.{cases_eq}
 use Rattle.std.proofs.lemmas.List.{append-nil}
-use Rattle.std.proofs.lemmas.Option.{get_or_from_slice_get, slice_get_within}
+use Rattle.std.proofs.lemmas.Option.{get_or_from_slice_get, slice_get_within, same_Some}
 use Rattle.dri_base.specs.Ranges.{ClientInRange, InRange, client_numbers, heap_bytes}
 use Rattle.dri_base.specs.Scenes.{commands_of, is_named}
 use Rattle.dri_base.specs.declared.journal.Entry.{Entry}
@@ -28,12 +28,13 @@ use Rattle.dri_core.proofs.Going.{Going, going_after}
 use Rattle.dri_core.proofs.Laws.{after-push}
 use Rattle.dri_core.proofs.OneTurn.{turns_are_legal}
 use Rattle.dri_core.proofs.Rounds.{after_append, kill_legal}
+use Rattle.dri_core.proofs.CoreLaws.{journal-append}
 use Rattle.dri_shared.specs.States.{IsSameRun, SharedState, world_of}
 use Rattle.dri_world.specs.Holding.{HasClients, IsClientOf, IsHeld}
 use Rattle.dri_world.specs.Sites.{core_at, kill_at, turn_at}
 use Rattle.dri_world.specs.Turns.{Brings, BringsTo, IsSeated, MayAddIt, MayBring}
 use Rattle.dri_world.specs.declared.site.Site.{Site}
-use Rattle.dri_world.proofs.Places.{apart, some_one, stands, unwritten, written}
+use Rattle.dri_world.proofs.Places.{apart, stands, unwritten, written}
 use Rattle.dri_world.proofs.Whose.{IsOf, dying_at, kill_is_of, others, others_dying, turn_is_of}
 
 -- more room changes nothing
@@ -55,14 +56,6 @@ same_run s es t v' ks held same = record {
 legal_events_join : (s : Scene) (k : Core) (past rest : List Event) → LegalEvents s k past → LegalEvents s (after_events s k past) rest → LegalEvents s k (past ++ rest)
 legal_events_join s k [] rest before more = more
 legal_events_join s k (e ∷ past) rest before more = (before.0, legal_events_join s (after_event s k e) past rest before.1 more)
-
-with_append : (o : Option Entry) (xs ys : List Entry) → with_entry o (xs ++ ys) ≡ with_entry o xs ++ ys
-with_append None xs ys = refl
-with_append (Some e) xs ys = refl
-
-journal_append : (past rest : List Event) → journal_of (past ++ rest) ≡ journal_of past ++ journal_of rest
-journal_append [] rest = refl
-journal_append (e ∷ es) rest = ap (with_entry (entry_of e)) (journal_append es rest) ∙ with_append (entry_of e) (journal_of es) (journal_of rest)
 
 -- a client's turn rests on whether it is dying, and on no other's dying
 local_turn : (s : Scene) (w : World) (word : Word) (queue : List ℕ) (f g : ℕ → Bool) (c : ℕ) → f c ≡ g c →
@@ -198,7 +191,7 @@ module _ (s : Scene) (es : List Event) (t : Site) (ks : List ClientState) (held 
     good = held.good;
     run = run_one o legal;
     scene = brings.scene ∙ held.scene;
-    journal = brings.journal ∙ ap (λ j. j ++ journal_of (one_event o)) held.journal ∙ sym (journal_append es (one_event o));
+    journal = brings.journal ∙ ap (λ j. j ++ journal_of (one_event o)) held.journal ∙ sym (journal-append es (one_event o));
     word = brings.word ∙ word_on o dying ∙ ap (λ (c : Core). c.word) (sym (after_one o));
     queue = brings.queue ∙ queue_on o dying ∙ ap (λ (c : Core). c.queue) (sym (after_one o));
     clients = subst (λ c. HasClients t'.shared c (client_numbers s.clients) ks') (sym (after_one o)) clients;
@@ -248,7 +241,7 @@ module _ (s : Scene) (es : List Event) (t : Site) (ks : List ClientState) (held 
 
       by_place : (j m : ℕ) (x : ClientState) → slice_get (client_numbers s.clients) j ≡ Some m → slice_get (set ks i k') j ≡ Some x → (j ≡ i) ⊎ (j ≡ i → ⊥) → IsClientOf t'.shared (core_after s core o) m x
       by_place j m x at_j at_x (inl same) =
-          let is_n : n ≡ m = some_one (sym at_i ∙ subst (λ y. slice_get (client_numbers s.clients) y ≡ Some m) same at_j) in
+          let is_n : n ≡ m = same_Some _ _ (sym at_i ∙ subst (λ y. slice_get (client_numbers s.clients) y ≡ Some m) same at_j) in
           let is_k : k' ≡ x = sym (written ks i k' x (subst (λ y. slice_get (set ks i k') y ≡ Some x) same at_x)) in
           subst (λ y. IsClientOf t'.shared (core_after s core o) y x) is_n (subst (IsClientOf t'.shared (core_after s core o) n) is_k mine)
       by_place j m x at_j at_x (inr ne) =

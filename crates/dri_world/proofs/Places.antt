@@ -1,16 +1,10 @@
 -- Places of lists: what stands at a place after a write, and numbers that rise.
-use Rattle.std.proofs.Common.{◌≡◌, ◌≢◌, ◌<◌, ℕ, List, Bool, true, false, length, get_or, Some, arith, refl, sym, ap, ◌∙◌}
+use Rattle.std.proofs.Common.{◌≡◌, ◌≢◌, ◌<◌, ℕ, List, Bool, true, false, length, Some, arith, refl, sym, ap, ◌∙◌}
 use Rattle.std.proofs.Math.ListN.{set, length-set}
 use Rattle.std.specs.Prelude.{AllPairs, Contains, nat_lt, slice_get}
 use Rattle.std.proofs.lemmas.Bool.Decides.{nat_tests}
 use Rattle.std.proofs.lemmas.List.{get_or-set_same, get_or-set_other}
-use Rattle.std.proofs.lemmas.Option.{get_or_from_slice_get, slice_get-get_or, slice_get-map, slice_get_read, slice_get_within}
-use Rattle.std.specs.Option.{option_map}
-use Rattle.dri_base.specs.Ranges.{client_numbers}
-use Rattle.dri_base.specs.declared.scene.ClientScript.{ClientScript}
-
-pub some_one : {A : Type 0} {x y : A} → Some x ≡ Some y → x ≡ y
-some_one e = cc
+use Rattle.std.proofs.lemmas.Option.{get_or_from_slice_get, slice_get-get_or, slice_get_within}
 
 -- a list has what stands at a place
 pub stands : (ns : List ℕ) (i n : ℕ) → slice_get ns i ≡ Some n → Contains ns n
@@ -41,9 +35,3 @@ apart ns i j n m rising at_i at_j ne same = by_order (nat_lt i j) refl
     by_order false o =
         let lt : j < i = grind (arith, nat_tests, ne) in
         omega (arith, rising j i 0 lt (slice_get_within ns i n at_i), get_or_from_slice_get ns i n 0 at_i, get_or_from_slice_get ns j m 0 at_j, same)
-
--- the number of the script at a place
-pub number_read : (ps : List ClientScript) (i d : ℕ) (p : ClientScript) → i < length ps → p ≡ get_or ps i p → get_or (client_numbers ps) i d ≡ p.number
-number_read ps i d p below is =
-    get_or_from_slice_get (client_numbers ps) i p.number d
-    (slice_get-map (λ (q : ClientScript). q.number) ps i ∙ ap (option_map (λ (q : ClientScript). q.number)) (slice_get_read ps (length ps) i p refl below is))

@@ -4,7 +4,7 @@ use Rattle.std.specs.Prelude.{◌↔◌, ◌==◌, ◌&&◌, ◌||◌, is_none, 
 use Rattle.std.proofs.lemmas.Bool.{true≢false}
 use Rattle.std.proofs.lemmas.Bool.Decides.{nat_tests}
 use Rattle.std.proofs.lemmas.List.{append-nil, take_more}
-use Rattle.std.proofs.lemmas.Option.{get_or_from_slice_get, slice_get_within}
+use Rattle.std.proofs.lemmas.Option.{get_or_from_slice_get, slice_get_within, same_Some}
 use Rattle.dri_base.specs.Ranges.{InRange, ItemInRange, client_numbers}
 use Rattle.dri_base.specs.Scenes.{kills_in}
 use Rattle.dri_base.specs.declared.command.Item.{Item}
@@ -23,7 +23,9 @@ use Rattle.dri_core.proofs.Rounds.{after_append, played_append}
 use Rattle.dri_core.proofs.RoundsEnd.{more_rounds}
 use Rattle.dri_core.proofs.RunLaws.{whole_where_passed}
 use Rattle.dri_world.specs.Courses.{Course, GoesOn, IsPlayedIn, IsPlayedOn, IsSound, LeavesLess, MayTake, core_of, is_move, turned}
-use Rattle.dri_world.proofs.Places.{some_one}
+use Rattle.dri_driver.specs.Clients.{ClientState}
+use Rattle.dri_world.specs.Holding.{IsHeld}
+use Rattle.dri_world.specs.declared.site.Site.{Site}
 use Rattle.dri_world.specs.declared.turned.Turned.{Turned}
 
 -- the core after more events
@@ -167,6 +169,12 @@ turn_falls old new a sound on = by_event (turn old.scene (core_of old) a) refl o
         let falls = turn_less old.scene (core_of old) (well_formed old.scene sound.good) going a x h in
         subst (λ t. work_left t (core_of new) + 1 ≤ work_left old.scene (core_of old)) (sym g.scene) (subst (λ k. work_left old.scene k + 1 ≤ work_left old.scene (core_of old)) (sym e) (omega (arith, falls)))
 
+-- a turn leaves less, also in a part of the world that is held
+pub turned_less : (s : Scene) (es : List Event) (site : Site) (ks : List ClientState) (old new : Course) (a : ℕ) (t : Turned) → IsHeld s es site ks → record { scene = s; events = es } ≡ old →
+    t ≡ turned (turn old.scene (core_of old) a) → GoesOn old new (one_event (turn old.scene (core_of old) a)) → LeavesLess old new (is_move t)
+turned_less s es site ks old new a t held view told made =
+    subst (λ (x : Turned). LeavesLess old new (is_move x)) (sym told) (turn_falls old new a (subst IsSound view (record { good = held.good; run = held.run })) made)
+
 pub less_less : (a b c : Course) (x y : Bool) → LeavesLess a b x → LeavesLess b c y → LeavesLess a c (x || y)
 less_less a b c true y first second = omega (arith, first, second)
 less_less a b c false y first second = omega (arith, first, second)
@@ -222,12 +230,12 @@ whole_by w sound pass = whole_where_passed w.scene w.events sound.good sound.run
 -- an item of the schedule may be taken
 kill_listed : (items : List Item) (i c : ℕ) → slice_get items i ≡ Some (Kill c) → kills_in items c ≡ true
 kill_listed [] i c e = absurd (let l = slice_get_within {A = Item} [] i (Kill c) e in omega (arith, l))
-kill_listed (Turn a ∷ items) zero c e = absurd (different (some_one e))
+kill_listed (Turn a ∷ items) zero c e = absurd (different (same_Some _ _ e))
   where
     different : Turn a ≡ Kill c → ⊥
     different h = cc
 kill_listed (Turn a ∷ items) (suc i) c e = kill_listed items i c e
-kill_listed (Kill d ∷ items) zero c e = let same : d ≡ c = victim_same (some_one e) in rw same (itself c (kills_in items c))
+kill_listed (Kill d ∷ items) zero c e = let same : d ≡ c = victim_same (same_Some _ _ e) in rw same (itself c (kills_in items c))
   where
     victim_same : Kill d ≡ Kill c → d ≡ c
     victim_same h = cc

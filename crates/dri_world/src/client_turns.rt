@@ -67,33 +67,15 @@ impl Site {
         ensures made { IfOk result (λ o. Brings o self.old self.new client.old client.new) }
         ensures err { OnErr result (Brings None self.old self.new client.old client.new) }
     {
-        match self.act(client) {
-            Acted::Ran { entry } => Ok(Some(event_of(entry))),
-            Acted::Dies => Ok(Some(self.bury(alloc, client)?)),
-            Acted::MustLeave | Acted::Done => Ok(None),
-        }
-    }
-
-    // The client makes its next event in its side of the shared value, if it makes one there.
-    fn act(&mut self, client: &mut Client) -> Acted
-        requires seated { IsSeated self.old client.old }
-        requires phase { client.old.phase ≡ Phase_is.In }
-        ensures must_leave { (result ≡ Acted.MustLeave) ↔ MustGo client.old }
-        ensures dies { (result ≡ Acted.Dies) ↔ IsAtDeath client.old }
-        ensures done { (result ≡ Acted.Done) ↔ IsAtEnd client.old }
-        ensures event { IfRan result (λ e. next_event client.old (world_of self.old.shared) ≡ Some (event_of e)) }
-        ensures added { IfRan result (λ e. Added self.old.shared self.new.shared e) }
-        ensures fits { IfRan result (λ e. Fits client.new self.new.shared) }
-        ensures same { IfRan result (λ e. IsSameClient client.old client.new) }
-        ensures kept { UnlessRan result (client.new ≡ client.old) }
-        ensures site_kept { UnlessRan result (self.new ≡ self.old) }
-        ensures lock { self.new.lock ≡ self.old.lock }
-    {
         let number = client.number();
         let mut side = self.shared.client_side(number);
         let acted = client.act(&mut side);
         drop(side);
-        acted
+        match acted {
+            Acted::Ran { entry } => Ok(Some(event_of(entry))),
+            Acted::Dies => Ok(Some(self.bury(alloc, client)?)),
+            Acted::MustLeave | Acted::Done => Ok(None),
+        }
     }
 
     // A client that asks is told what its window shows, or waits.

@@ -12,6 +12,12 @@ use dri_base::Event;
 use dri_kernel::Queue;
 use std::marker::Model;
 
+// Bit 31 of the word's number: somebody holds.
+const HELD: u32 = 0x8000_0000;
+
+// Bit 30: the first in the queue has marked the word.
+const CONTENDED: u32 = 0x4000_0000;
+
 /// The lock word: held or not, marked by the first in the queue or not, and the context that holds it or that left it.
 #[derive(Drop)]
 pub(crate) struct LockWord {
@@ -86,8 +92,8 @@ impl LockWord {
     pub(crate) fn number(&self) -> u32
         ensures { result ≡ word_number self.now }
     {
-        let held = if self.held { 0x8000_0000 } else { 0 };
-        let contended = if self.contended { 0x4000_0000 } else { 0 };
+        let held = if self.held { HELD } else { 0 };
+        let contended = if self.contended { CONTENDED } else { 0 };
         held + (contended + self.context)
     }
 }

@@ -37,7 +37,7 @@ impl World {
         let mut moves = false;
         for i in 0..self.scene.clients.len() {
             let number = self.scene.clients.get(i).number;
-            let turned = self.client_turn(alloc, i, number)?;
+            let turned = self.turn(alloc, number)?;
             moves |= is_move(&turned);
         }
         let turned = self.server_turn(alloc)?;

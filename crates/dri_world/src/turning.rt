@@ -9,7 +9,8 @@ ghost use Rattle.dri_world.specs.Courses.{GoesOn, IsActor, IsPassedOver, IsPastK
 use crate::server_turns::SERVER;
 use crate::turned::Turned;
 use crate::world::World;
-use dri_base::{Clients, Event, OutOfMemory};
+use dri_base::{Event, OutOfMemory};
+use dri_client::place_of;
 use std::alloc::Global;
 
 impl World {
@@ -27,8 +28,14 @@ impl World {
         if actor == SERVER {
             return self.server_turn(alloc);
         }
-        let place = place_of(&self.scene.clients, actor);
-        self.client_turn(alloc, place, actor)
+        self.site.shared.reserve(1)?;
+        self.events.reserve(1)?;
+        let Some(place) = place_of(self.scene.clients.as_slice(), actor) else {
+            unreachable!();
+        };
+        let client = &mut self.clients[place];
+        let made = self.site.turn_of(alloc, client)?;
+        Ok(note(&mut self.events, made))
     }
 
     /// The kill of a client, which an item of the scene's schedule kills: its death where it holds, else its stop. It is
@@ -43,7 +50,9 @@ impl World {
     {
         self.site.shared.reserve(1)?;
         self.events.reserve(1)?;
-        let place = place_of(&self.scene.clients, client);
+        let Some(place) = place_of(self.scene.clients.as_slice(), client) else {
+            unreachable!();
+        };
         let killed = &mut self.clients[place];
         let made = self.site.kill_of(alloc, killed)?;
         Ok(note(&mut self.events, made))
@@ -64,27 +73,6 @@ impl World {
         let made = self.site.turn_of_server(alloc, total)?;
         Ok(note(&mut self.events, made))
     }
-
-    /// The turn of the client of the script at a place, which has this number.
-    pub(crate) fn client_turn(
-        &mut self,
-        alloc: Global,
-        place: usize,
-        number: u32,
-    ) -> Result<Turned, OutOfMemory>
-        requires { slice_get (client_numbers self.old.scene.clients) place ≡ Some number }
-        ensures told { IfOk result (λ t. t ≡ turned (turn self.old.scene (core_of self.old) number)) }
-        ensures made { OnOk result (GoesOn self.old self.new (one_event (turn self.old.scene (core_of self.old) number))) }
-        ensures passed { IfOk result (λ t. (t ≡ Turned.Passed) ↔ IsPassedOver self.old.scene (core_of self.old) number) }
-        ensures err { OnErr result (self.new ≡ self.old) }
-        ensures less { IfOk result (λ t. LeavesLess self.old self.new (is_move t)) }
-    {
-        self.site.shared.reserve(1)?;
-        self.events.reserve(1)?;
-        let client = &mut self.clients[place];
-        let made = self.site.turn_of(alloc, client)?;
-        Ok(note(&mut self.events, made))
-    }
 }
 
 /// Puts an event, where one was made, last. There is room for it.
@@ -100,17 +88,4 @@ fn note(events: &mut Vec<Event>, made: Option<Event>) -> Turned
         }
         None => Turned::Passed,
     }
-}
-
-/// The place of the script with a number, which is there.
-fn place_of(scripts: &Clients, number: u32) -> usize
-    requires { Contains (client_numbers scripts.now) number }
-    ensures { slice_get (client_numbers scripts.now) result ≡ Some number }
-{
-    for (place, script) in scripts.as_slice().iter().enumerate() {
-        if script.number == number {
-            return place;
-        }
-    }
-    unreachable!()
 }

@@ -13,8 +13,8 @@ use dri_meaning::{
     columns, confined, core, counted, covered_and_uncovered, covered_in_part, covered_whole, death,
     death_of_two_windows, decided, depths, each_depth, each_setting, frames, judged, killed_before,
     killed_in_a_hold, marked, no_hold_runs, no_holds, own, own_card, rounds_end, shown_again,
-    solo_left, solo_picture, solo_pixel, stamped, stopped, turns, two_blends, two_holds,
-    two_places, two_textures, why_refused,
+    solo_left, solo_picture, solo_pixel, stamped, stopped, turned_off, turns, two_blends,
+    two_holds, two_places, two_textures, why_refused,
 };
 use std::alloc::Global;
 use std::test::Fail;
@@ -63,6 +63,7 @@ fn worked_scenes() {
     columns();
     two_places();
     each_setting();
+    turned_off();
     each_depth();
 }
 

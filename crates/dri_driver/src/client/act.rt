@@ -12,7 +12,7 @@ ghost use Rattle.dri_driver.specs.Needs.{entries_left};
 
 use super::Client;
 use crate::answers::Acted;
-use dri_base::{Command, Entry, Triangle};
+use dri_base::{Command, Entry};
 use dri_client::Activity;
 use dri_shared::ClientSide;
 
@@ -47,7 +47,8 @@ impl Client {
         }
     }
 
-    // Runs its next command, which isn't its death, or makes ready for it.
+    // Runs its next command, which isn't its death, or makes ready for it: before a triangle its texture is placed, and the
+    // card told what is dirty.
     fn go_on(&mut self, side: &mut ClientSide<'_>, command: &Command) -> Entry
         requires acting { self.old.phase ≡ In }
         requires client { client_at side.old ≡ self.old.number }
@@ -62,31 +63,14 @@ impl Client {
         match command {
             Command::Set(setting) => self.set(side, setting),
             Command::Clear { colour, depth } => self.clear(side, *colour, *depth),
-            Command::Triangle(triangle) => self.draw(side, triangle),
+            Command::Triangle(triangle) => match self.part.missing_texture() {
+                Some(texture) => self.place(side, texture),
+                None if self.part.dirty().is_empty() => self.triangle(side, triangle),
+                None => self.emit(side),
+            },
             Command::Swap => self.swap(side),
             Command::Yield => self.yields(side),
             Command::Die => unreachable!(),
-        }
-    }
-
-    // Draws its next command, a triangle, or makes ready for it.
-    fn draw(&mut self, side: &mut ClientSide<'_>, triangle: &Triangle) -> Entry
-        requires acting { self.old.phase ≡ In }
-        requires client { client_at side.old ≡ self.old.number }
-        requires fits { Fits self.old (value_at side.old) }
-        requires room { 1 ≤ (value_at side.old).spare }
-        requires next { next_command self.old ≡ Some (Command.Triangle triangle.now) }
-        ensures { IsStep self.old self.new side.old side.new result }
-    {
-        match self.part.missing_texture() {
-            Some(texture) => self.place(side, texture),
-            None => {
-                if self.part.dirty().is_empty() {
-                    self.triangle(side, triangle)
-                } else {
-                    self.emit(side)
-                }
-            }
         }
     }
 }

@@ -1,10 +1,14 @@
 use Rattle.std.proofs.Common.{below_more}
-use Rattle.dri_client.proofs.Owned.{number_read, script_found, script_on}
+use Rattle.dri_client.proofs.Owned.{number_read, number_stands, script_found, script_on}
 use Rattle.dri_client.proofs.script.place_of.Goals as goal
 
 pub returns-then-script-number-clause-script : goal.returns-then-script-number-clause-script
 returns-then-script-number-clause-script c =
     script_found c.args.clients.now c.loop-place.place c.args.number c.index-clients-place.result c.loop-place-test.true c.index-clients-place.is c.if-script-number.true c.loop-place.invariant.same
+
+pub returns-then-script-number-clause-number : goal.returns-then-script-number-clause-number
+returns-then-script-number-clause-number c =
+    number_stands c.args.clients.now c.loop-place.place c.args.number c.index-clients-place.result c.loop-place-test.true c.index-clients-place.is c.if-script-number.true
 
 pub loop-place-preserved : goal.loop-place-preserved
 loop-place-preserved c =

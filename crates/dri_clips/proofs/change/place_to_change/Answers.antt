@@ -8,7 +8,7 @@ use Rattle.dri_clips.proofs.change.place_to_change.Goals as goal
 pub returns-in_default-clause-err : goal.returns-in_default-clause-err
 returns-in_default-clause-err c = record {
   why = Refusal.NoWindow;
-  is = refused_absent c.args.change.now c.args.stack.now (rw (← c.named_by.ensures) c.in_default.ensures.absent);
+  is = refused_absent c.args.change.now c.args.stack.now (rw (← c.window-number.ensures) c.in_default.ensures.absent);
   told = refl;
 }
 
@@ -19,8 +19,8 @@ pub returns-in_err-allow_change-clause-err : goal.returns-in_err-allow_change-cl
 returns-in_err-allow_change-clause-err c =
     let p = err_from_is_err_and c.from_residual.result c.from_residual.ensures.1 in
     let here : refusal c.args.change.now c.args.stack.now ≡ refused_at c.args.change.now c.window.result =
-    refused_here c.args.change.now c.in-Some.at c.args.stack.now c.window.result (rw (← c.named_by.ensures) c.in-Some.ensures.there) c.window.ensures in
+    refused_here c.args.change.now c.in-Some.at c.args.stack.now c.window.result (rw (← c.window-number.ensures) c.in-Some.ensures.there) c.window.ensures in
     rw (p.1, p.2, here) c.in_err-allow_change.ensures.err
 
 pub returns-clause-ok : goal.returns-clause-ok
-returns-clause-ok c = refused_here c.args.change.now c.in-Some.at c.args.stack.now c.window.result (rw (← c.named_by.ensures) c.in-Some.ensures.there) c.window.ensures ∙ c.in_ok-allow_change.ensures.ok
+returns-clause-ok c = refused_here c.args.change.now c.in-Some.at c.args.stack.now c.window.result (rw (← c.window-number.ensures) c.in-Some.ensures.there) c.window.ensures ∙ c.in_ok-allow_change.ensures.ok

@@ -7,13 +7,13 @@ use Rattle.dri_clips.proofs.stamps.restamp.Goals as goal
 use Rattle.dri_clips.proofs.stamps.restamp.Goals.{then-is_touched+in_ok-push, else-is_touched}
 
 pub loop-number-init : goal.loop-number-init
-loop-number-init c = restamp_none _ c.args.counter c.args.stamps.now _ (touched_none c.args.old.now c.args.new.now c.requires.layouts) (search rules) c.new.ensures refl refl
+loop-number-init c = restamp_none _ c.args.counter c.args.stamps.now _ (touched_none c.args.old.now.width c.args.old.now.height c.args.old.now.stack c.args.new.now c.requires.layout.ranged c.requires.numbers) (search rules) c.new.ensures refl refl
 
 pub overflow_add-out : goal.overflow_add-out
 overflow_add-out c =
-    let most : how_many (is_touched c.args.old.now.width c.args.old.now.height c.args.old.now.stack c.args.new.now.stack) c.loop-number.number < c.loop-number.number =
-    many_most (is_touched c.args.old.now.width c.args.old.now.height c.args.old.now.stack c.args.new.now.stack) (touched_none c.args.old.now c.args.new.now c.requires.layouts) c.loop-number.number (omega arith) in
-    let at : c.loop-number.out.counter ≡ c.args.counter + how_many (is_touched c.args.old.now.width c.args.old.now.height c.args.old.now.stack c.args.new.now.stack) c.loop-number.number = c.loop-number.invariant.counter in
+    let most : how_many (is_touched c.args.old.now.width c.args.old.now.height c.args.old.now.stack c.args.new.now) c.loop-number.number < c.loop-number.number =
+    many_most (is_touched c.args.old.now.width c.args.old.now.height c.args.old.now.stack c.args.new.now) (touched_none c.args.old.now.width c.args.old.now.height c.args.old.now.stack c.args.new.now c.requires.layout.ranged c.requires.numbers) c.loop-number.number (omega arith) in
+    let at : c.loop-number.out.counter ≡ c.args.counter + how_many (is_touched c.args.old.now.width c.args.old.now.height c.args.old.now.stack c.args.new.now) c.loop-number.number = c.loop-number.invariant.counter in
     omega arith
 
 pub loop-number-preserved : goal.loop-number-preserved
@@ -25,4 +25,4 @@ loop-number-preserved c = elim c.if-is_touched.branch [
 pub returns : goal.returns
 returns c =
     let e : c.loop-number.number ≡ 65 = omega arith in
-    subst (λ (n : ℕ). IsRestamped (is_touched c.args.old.now.width c.args.old.now.height c.args.old.now.stack c.args.new.now.stack) n c.args.counter c.args.stamps.now c.loop-number.out) e c.loop-number.invariant
+    subst (λ (n : ℕ). IsRestamped (is_touched c.args.old.now.width c.args.old.now.height c.args.old.now.stack c.args.new.now) n c.args.counter c.args.stamps.now c.loop-number.out) e c.loop-number.invariant

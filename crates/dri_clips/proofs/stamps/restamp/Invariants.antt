@@ -3,4 +3,4 @@ use Rattle.dri_clips.specs.Layouts.{IsRestamped}
 use Rattle.dri_clips.proofs.stamps.restamp.Given as goal
 
 abbrev pub invariant-loop-number : goal.invariant-loop-number
-invariant-loop-number l = IsRestamped (is_touched l.old.width l.old.height l.old.stack l.new.stack) l.number l.counter l.stamps l.out
+invariant-loop-number l = IsRestamped (is_touched l.old.width l.old.height l.old.stack l.new) l.number l.counter l.stamps l.out

@@ -15,19 +15,20 @@ pub loop-i-preserved : goal.loop-i-preserved
 loop-i-preserved c =
     let s = arc_value c.args.scene.now in
     let ks = c.loop-i.clients.items in
-    let k = c.in_ok-new.field-0 in
+    let k = c.in_ok-client.client in
     let n = c.get.result.now.number in
-    let pushed : c.push.new.self.items ≡ ks ++ k ∷ [] = search rules in
+    let pushed : c.push_reserved.new.self.items ≡ ks ++ k ∷ [] = search rules in
     let at : slice_get (client_numbers s.clients) c.loop-i.i ≡ Some n =
     subst (λ (t : Scene). slice_get (client_numbers t.clients) c.loop-i.i ≡ Some n) c.deref-in-loop-i.ensures (number_at c.deref-in-loop-i.result.now.clients c.loop-i.i c.get.result.now c.get.ensures) in
     let opens : IsOpening s n k = record {
-      scene = c.in_ok-new.ensures.scene ∙ c.in_ok-clone.ensures.cases;
-      numbered = c.in_ok-new.ensures.number;
-      living = c.in_ok-new.ensures.living;
-      part = c.in_ok-new.ensures.part ∙ ap (λ (t : Scene). opening_part (commands_of t n)) c.in_ok-clone.ensures.cases;
+      scene = c.in_ok-client.ensures.scene ∙ c.in_ok-clone.ensures.cases;
+      numbered = c.in_ok-client.ensures.number;
+      living = c.in_ok-client.ensures.living;
+      part = c.in_ok-client.ensures.part ∙ ap (λ (t : Scene). opening_part (commands_of t n)) c.in_ok-clone.ensures.cases;
     } in
     record {
       last = c.loop-i.invariant.last;
+      room = rw c.push_reserved.ensures.capacity c.loop-i.invariant.room;
       number = ap length pushed ∙ length_push ks k ∙ ap (λ m. m + 1) c.loop-i.invariant.number;
       each = subst (λ (xs : List ClientState). (j m : ℕ) (x : ClientState) → slice_get (client_numbers s.clients) j ≡ Some m → slice_get xs j ≡ Some x → IsOpening s m x) (sym pushed)
           (opening_more s (client_numbers s.clients) ks c.loop-i.i n k c.loop-i.invariant.number at c.loop-i.invariant.each opens);

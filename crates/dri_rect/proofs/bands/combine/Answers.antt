@@ -4,12 +4,13 @@ use Rattle.std.proofs.lemmas.Int.{to_z-of_z}
 use mir.Val.{SFits}
 use Rattle.dri_rect.specs.Walk.{is_done}
 use Rattle.dri_rect.proofs.RowWalks.{done_open}
-use Rattle.dri_rect.proofs.BandWalks.{placing_start, placing_start_in, placing_step, placing_done, band_smaller, done_whole, reaches_line, reaches_line_too, over_whole}
+use Rattle.dri_rect.proofs.BandWalks.{placing_start, placing_start_in, placing_step, placing_done, placing_rest, band_smaller, done_whole, reaches_line, reaches_line_too, over_whole}
+use Rattle.dri_rect.proofs.Regions.{bands}
 use Rattle.dri_rect.proofs.bands.combine.Goals as goal
 
 pub loop-above-init : goal.loop-above-init
 loop-above-init c = record {
-  walk = rw c.in_ok-out.ensures.items (placing_start c.args.operation c.args.first.now c.args.second.now _ _ _ _ c.requires.first c.requires.second c.bands_of-above.ensures c.bands_of-below.ensures);
+  walk = rw c.in_ok-out.ensures.items (placing_start c.args.operation c.args.first.now c.args.second.now _ _ _ _ (bands _ c.requires.first) (bands _ c.requires.second) c.bands_of-above.ensures c.bands_of-below.ensures);
   cut_above = c.bands_of-above.ensures.cuts;
   cut_below = c.bands_of-below.ensures.cuts;
 }
@@ -61,3 +62,15 @@ returns c =
     let t : is_done c.args.operation c.loop-above.above.first.now c.loop-above.below.first.now ≡ true = cc in
     let over = sym (done_whole c.args.operation _ _ _ _ c.loop-above.invariant.cut_above c.loop-above.invariant.cut_below) ∙ t in
     placing_done _ _ _ _ _ _ _ _ c.loop-above.invariant.walk over
+
+pub bands_of-above-requires : goal.bands_of-above-requires
+bands_of-above-requires c = bands _ c.requires.first
+
+pub bands_of-below-requires : goal.bands_of-below-requires
+bands_of-below-requires c = bands _ c.requires.second
+
+pub returns-in-Some : goal.returns-in-Some
+returns-in-Some c =
+    let t : is_done c.args.operation c.loop-above.above.first.now c.loop-above.below.first.now ≡ false = cc in
+    let over = sym (done_whole c.args.operation _ _ _ _ c.loop-above.invariant.cut_above c.loop-above.invariant.cut_below) ∙ t in
+    rw c.in_ok-put_bands.ensures (placing_rest _ _ _ _ _ _ _ _ c.loop-above.invariant.walk c.requires.first c.requires.second over _ c.in-Some.ensures)

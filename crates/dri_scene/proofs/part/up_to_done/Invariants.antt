@@ -1,7 +1,8 @@
 -- What the lines that are left lead to is what all lead to; the bytes that were taken are those of the lines before.
 use Rattle.std.proofs.Common.{◌≡◌, ◌+◌, ◌≤◌, length}
 use Rattle.dri_scene.specs.Soundness.{IsSound}
-use Rattle.dri_scene.specs.Readings.{begun, text_size, up_to_done}
+use Rattle.dri_scene.specs.Readings.{begun, up_to_done}
+use Rattle.dri_words.specs.Lines.{text_size}
 use Rattle.dri_scene.proofs.part.up_to_done.Given as goal
 
 abbrev pub invariant-loop-line : goal.invariant-loop-line

@@ -1,7 +1,8 @@
 -- The block's lines, part by part.
 use Rattle.std.proofs.Common.{[], ◌∷◌, ◌++◌, map, codes, decimal, ap, sym, ◌∙◌}
 use Rattle.std.specs.List.{flat_map}
-use Rattle.dri_scene.specs.Texts.{command_words, end_words, line_bytes, texture_words}
+use Rattle.dri_scene.specs.Texts.{command_words, end_words, texture_words}
+use Rattle.dri_words.specs.Lines.{line_bytes}
 use Rattle.dri_scene.proofs.Joins.{added_none, adds_same, joined, mapped_lines, on_ok}
 use Rattle.dri_scene.proofs.print.push_client.Goals as goal
 

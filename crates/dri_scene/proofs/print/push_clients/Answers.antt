@@ -4,7 +4,8 @@ use Rattle.std.proofs.lemmas.List.{take_all}
 use Rattle.std.proofs.lemmas.List.Elements.{All-more}
 use Rattle.std.specs.List.{flat_map}
 use Rattle.dri_scene.specs.Stored.{IsStoredClient}
-use Rattle.dri_scene.specs.Texts.{Adds, client_lines, line_bytes}
+use Rattle.dri_scene.specs.Texts.{Adds, client_lines}
+use Rattle.dri_words.specs.Lines.{line_bytes}
 use Rattle.dri_scene.proofs.Joins.{next_piece}
 use Rattle.dri_scene.proofs.print.push_clients.Goals as goal
 

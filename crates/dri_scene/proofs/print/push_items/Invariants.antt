@@ -1,7 +1,8 @@
 -- The lines so far.
 use Rattle.std.proofs.Common.{take}
 use Rattle.std.specs.List.{flat_map}
-use Rattle.dri_scene.specs.Texts.{Adds, item_words, line_bytes}
+use Rattle.dri_scene.specs.Texts.{Adds, item_words}
+use Rattle.dri_words.specs.Lines.{line_bytes}
 use Rattle.dri_scene.proofs.print.push_items.Given as goal
 
 abbrev pub invariant-loop-item : goal.invariant-loop-item

@@ -2,7 +2,8 @@
 use Rattle.std.proofs.Common.{rules, subst}
 use Rattle.std.proofs.lemmas.List.Elements.{All-more}
 use Rattle.dri_scene.specs.Stored.{IsStoredTexture}
-use Rattle.dri_scene.specs.Texts.{Adds, texture_words, line_bytes}
+use Rattle.dri_scene.specs.Texts.{Adds, texture_words}
+use Rattle.dri_words.specs.Lines.{line_bytes}
 use Rattle.dri_scene.proofs.Joins.{next_piece}
 use Rattle.dri_scene.proofs.print.push_textures.Goals as goal
 

@@ -1,7 +1,8 @@
 -- The lines so far.
 use Rattle.std.proofs.Common.{All, take}
 use Rattle.std.specs.List.{flat_map}
-use Rattle.dri_scene.specs.Texts.{Adds, line_bytes, window_words}
+use Rattle.dri_scene.specs.Texts.{Adds, window_words}
+use Rattle.dri_words.specs.Lines.{line_bytes}
 use Rattle.dri_scene.specs.Stored.{IsColour}
 use Rattle.dri_scene.proofs.print.push_windows.Given as goal
 

@@ -2,7 +2,7 @@
 use Rattle.std.proofs.Common.{w32, rules}
 use Rattle.std.proofs.lemmas.Int.{to_z-of_z}
 use mir.Val.{SFits}
-use Rattle.dri_scene.specs.Texts.{words_bytes}
+use Rattle.dri_words.specs.Lines.{words_bytes}
 use Rattle.dri_scene.proofs.Joins.{behind, joined, on_ok}
 use Rattle.dri_scene.proofs.print_command.push_corner.Goals as goal
 

@@ -1,28 +1,47 @@
 -- One rectangle more, and all.
-use Rattle.std.proofs.Common.{take, ◌+◌, arith}
+use Rattle.std.proofs.Common.{take, ◌+◌, ◌++◌, ◌≡◌, ◌∙◌, ap, ℕ, List, arith}
+use Rattle.dri_card.specs.Contents.{IsOnCard}
+use Rattle.dri_model.specs.CommandWords.{triangle_words}
 use Rattle.dri_shared.specs.Drawing.{drawn_in}
-use Rattle.dri_shared.proofs.Drawn.{drawn_more, holds_same, on_ok, only_drawn_on, screen_kept}
-use Rattle.dri_shared.proofs.Rects.{apart_at, shown_at}
+use Rattle.dri_shared.proofs.Drawn.{clipped_on, clipped_sides, drawn_more, holds_same, on_ok, only_drawn_on, rect_drawn}
+use Rattle.dri_shared.proofs.Rects.{apart_at, same_inside, same_rect, shown_at, shown_small}
 use Rattle.dri_shared.proofs.drawing.draw_clips.Goals as goal
 
-pub draw_rect-requires-clause-screen : goal.draw_rect-requires-clause-screen
-draw_rect-requires-clause-screen g c = screen_kept c.args.card.now c.loop-i.card c.loop-i.invariant.sides c.requires.screen
-
-pub draw_rect-requires-clause-shown : goal.draw_rect-requires-clause-shown
-draw_rect-requires-clause-shown g c =
-    let s = c.loop-i.invariant.sides c.args.card.now.front.width c.args.card.now.front.height c.requires.screen.sides in
-    rw (s.front_width, s.front_height)
+pub clip_rect-requires : goal.clip_rect-requires
+clip_rect-requires g c = shown_small c.args.card.now.front.width c.args.card.now.front.height c.rect.result c.requires.screen.wide c.requires.screen.high
     (shown_at c.args.card.now.front.width c.args.card.now.front.height c.args.clips.now c.loop-i.i c.rect.result c.arranged.ensures.proper c.requires.within c.rect.ensures)
 
-pub draw_rect-requires-clause-triangle : goal.draw_rect-requires-clause-triangle
-draw_rect-requires-clause-triangle g c = on_ok c.push_triangle.result _ (c.push_triangle.ensures.room.1 (rw c.new-buffer.ensures (omega arith))) c.push_triangle.ensures.held
+pub unwrap-requires-in-loop-i : goal.unwrap-requires-in-loop-i
+unwrap-requires-in-loop-i g c =
+    let sides = c.loop-i.invariant.sides c.args.card.now.front.width c.args.card.now.front.height c.requires.screen.sides in
+    let shown = shown_at c.args.card.now.front.width c.args.card.now.front.height c.args.clips.now c.loop-i.i c.rect.result c.arranged.ensures.proper c.requires.within c.rect.ensures in
+    let on : IsOnCard c.clip_rect.result c.loop-i.card = rw (sides.front_width, sides.front_height) (same_inside c.rect.result c.clip_rect.result c.args.card.now.front.width c.args.card.now.front.height (same_rect _ _ _ _ shown c.clip_rect.ensures) shown) in
+    c.set_clip.ensures.on_card.1 on
+
+pub unwrap-requires-in-loop-i-2 : goal.unwrap-requires-in-loop-i-2
+unwrap-requires-in-loop-i-2 g c =
+    let room = c.push_triangle.ensures.room.1 (rw c.new-buffer.ensures (omega arith)) in
+    let spelled : c.push_triangle.new.self ≡ triangle_words c.args.triangle.now = on_ok c.push_triangle.result _ room c.push_triangle.ensures.ok ∙ ap (λ (ws : List ℕ). ws ++ triangle_words c.args.triangle.now) c.new-buffer.ensures in
+    (c.dispatch.ensures.one c.args.triangle.now (on_ok c.push_triangle.result _ room c.push_triangle.ensures.held) spelled).0
 
 pub loop-i-preserved : goal.loop-i-preserved
-loop-i-preserved g c = record {
-  held = λ f holds. holds_same c.draw_rect.new.card _ (drawn_in c.args.card.now c.args.origin c.args.triangle.now (take (c.loop-i.i + 1) c.args.clips.now) f)
-      (drawn_more c.args.card.now c.loop-i.card c.args.origin c.args.triangle.now c.args.clips.now c.loop-i.i c.rect.result f c.loop-i.invariant.others c.rect.ensures
-      (λ x y. apart_at c.args.clips.now c.loop-i.i c.rect.result x y c.arranged.ensures.apart c.rect.ensures))
-      (c.draw_rect.ensures.held (drawn_in c.args.card.now c.args.origin c.args.triangle.now (take c.loop-i.i c.args.clips.now) f) (c.loop-i.invariant.held f holds));
-  others = only_drawn_on c.args.card.now c.loop-i.card c.draw_rect.new.card c.loop-i.invariant.others c.draw_rect.ensures.others;
-  sides = λ w h s. c.draw_rect.ensures.sides w h (c.loop-i.invariant.sides w h s);
-}
+loop-i-preserved g c =
+    let v = c.args.card.now in
+    let sides = c.loop-i.invariant.sides v.front.width v.front.height c.requires.screen.sides in
+    let shown = shown_at v.front.width v.front.height c.args.clips.now c.loop-i.i c.rect.result c.arranged.ensures.proper c.requires.within c.rect.ensures in
+    let same = same_rect _ _ _ _ shown c.clip_rect.ensures in
+    let on : IsOnCard c.clip_rect.result c.loop-i.card = rw (sides.front_width, sides.front_height) (same_inside c.rect.result c.clip_rect.result v.front.width v.front.height same shown) in
+    let clipped : c.set_clip.new.self ≡ record c.loop-i.card { clip = c.clip_rect.result } = on_ok c.set_clip.result _ (c.set_clip.ensures.on_card.1 on) c.set_clip.ensures.ok in
+    let room = c.push_triangle.ensures.room.1 (rw c.new-buffer.ensures (omega arith)) in
+    let spelled : c.push_triangle.new.self ≡ triangle_words c.args.triangle.now = on_ok c.push_triangle.result _ room c.push_triangle.ensures.ok ∙ ap (λ (ws : List ℕ). ws ++ triangle_words c.args.triangle.now) c.new-buffer.ensures in
+    let ranged = on_ok c.push_triangle.result _ room c.push_triangle.ensures.held in
+    record {
+      held = λ f holds. holds_same c.dispatch.new.self _ (drawn_in v c.args.origin c.args.triangle.now (take (c.loop-i.i + 1) c.args.clips.now) f)
+          (drawn_more v c.loop-i.card c.args.origin c.args.triangle.now c.args.clips.now c.loop-i.i c.rect.result f c.loop-i.invariant.others c.rect.ensures
+          (λ x y. apart_at c.args.clips.now c.loop-i.i c.rect.result x y c.arranged.ensures.apart c.rect.ensures))
+          (rect_drawn c.loop-i.card c.set_clip.new.self c.dispatch.new.self c.args.origin c.args.triangle.now c.rect.result c.clip_rect.result
+          (drawn_in v c.args.origin c.args.triangle.now (take c.loop-i.i c.args.clips.now) f) same clipped (c.loop-i.invariant.held f holds)
+          ((c.dispatch.ensures.one c.args.triangle.now ranged spelled).1 (drawn_in v c.args.origin c.args.triangle.now (take c.loop-i.i c.args.clips.now) f)));
+      others = only_drawn_on v c.loop-i.card c.dispatch.new.self c.loop-i.invariant.others (clipped_on c.loop-i.card c.set_clip.new.self c.dispatch.new.self c.clip_rect.result clipped c.dispatch.ensures.others);
+      sides = λ w h s. c.dispatch.ensures.sides w h (clipped_sides c.loop-i.card c.set_clip.new.self c.clip_rect.result clipped w h (c.loop-i.invariant.sides w h s));
+    }

@@ -1,9 +1,12 @@
 -- The triangle is drawn in the clip and the scissor.
+use Rattle.std.proofs.Common.{◌≤◌, ◌+◌, ◌*◌, subst, arith}
 use Rattle.dri_model.specs.Words.{card_image, rules_in}
 use Rattle.dri_base.specs.Planes.{in_rect}
+use Rattle.dri_walk.specs.Clips.{covered_places}
 use Rattle.dri_walk.specs.Drawings.{after_drawing, pair_left}
 use Rattle.dri_walk.specs.Samplings.{byte_in}
 use Rattle.dri_walk.specs.Surfaces.{drawn_at}
+use Rattle.dri_walk.proofs.Counts.{fewer_places}
 use Rattle.dri_walk.proofs.Painting.{becomes_alike}
 use Rattle.dri_walk.proofs.PixelRules.{triangle_drawn}
 use Rattle.dri_walk.proofs.drawing.draw_triangle.Goals as goal
@@ -19,3 +22,10 @@ returns-in-Some-clause-pairs g c =
     (after_drawing s.kept (rules_in r) image t c.args.clip.now c.args.origin)
     (triangle_drawn s.kept r image t c.args.clip.now c.narrowed-rect.result c.args.origin (pair_left s.kept c.in-Some.drawing) (c.in-Some.ensures.some s.kept) c.narrowed-rect.ensures.places)
     c.draw.ensures.pairs
+
+pub returns-in-Some-clause-bound : goal.returns-in-Some-clause-bound
+returns-in-Some-clause-bound g c =
+    let n = c.narrowed-rect.ensures in
+    let cost = subst (λ t. c.draw.new.steps ≤ c.args.steps.now + 4 * covered_places t c.narrowed-rect.result c.args.origin) c.in-Some.ensures.setup c.draw.ensures.bound in
+    let fewer = fewer_places c.args.triangle.now c.args.clip.now c.narrowed-rect.result c.args.origin n.left n.inside.right n.top n.inside.bottom in
+    omega (arith, cost, fewer)

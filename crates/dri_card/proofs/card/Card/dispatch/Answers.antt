@@ -1,7 +1,7 @@
 -- The buffer's triangles are those that were read.
-use Rattle.std.proofs.Common.{◌≡◌, [], ◌∷◌, ◌∙◌, sym, subst, refl}
+use Rattle.std.proofs.Common.{◌≡◌, ◌≤◌, ◌+◌, ◌*◌, [], ◌∷◌, ◌∙◌, sym, subst, refl}
 use Rattle.dri_card.specs.Contents.{Holds}
-use Rattle.dri_card.specs.Drawing.{after_triangles}
+use Rattle.dri_card.specs.Drawing.{after_triangles, covered_centres}
 use Rattle.dri_card.proofs.Readings.{one_triangle, one_word_list, ok_same, err_ok}
 use Rattle.dri_card.proofs.card.Card.dispatch.Goals as goal
 
@@ -19,3 +19,9 @@ returns-clause-one g c =
     λ t it words.
     let same : c.in_ok-triangles.triangles ≡ t ∷ [] = ok_same _ _ (c.in_ok-triangles.ensures.read (t ∷ []) (one_triangle t it) (c.words.ensures.value ∙ one_word_list _ t words)) in
     (refl, λ f holds. subst (λ ts. Holds c.draw_all.new.self (after_triangles c.args.self.now c.args.origin ts f)) same (c.draw_all.ensures.drawn f holds))
+
+pub returns-clause-bound : goal.returns-clause-bound
+returns-clause-bound g c =
+    λ b.
+    let same : c.in_ok-triangles.triangles ≡ b.triangles = ok_same _ _ (c.in_ok-triangles.ensures.read b.triangles b.in_range (c.words.ensures.value ∙ b.spells)) in
+    subst (λ ts. c.draw_all.new.steps ≤ c.args.steps.now + 4 * covered_centres c.args.self.now c.args.origin ts) same c.draw_all.ensures.bound

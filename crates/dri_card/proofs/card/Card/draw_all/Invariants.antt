@@ -1,8 +1,8 @@
 -- The triangles so far.
-use Rattle.std.proofs.Common.{ℕ, take}
+use Rattle.std.proofs.Common.{ℕ, ◌≤◌, ◌+◌, ◌*◌, take}
 use Rattle.dri_base.specs.declared.colour.Pixel.{Pixel}
 use Rattle.dri_card.specs.Contents.{Holds, KeepSides}
-use Rattle.dri_card.specs.Drawing.{OnlyDrawn, after_triangles}
+use Rattle.dri_card.specs.Drawing.{OnlyDrawn, after_triangles, covered_centres}
 use Rattle.dri_card.proofs.card.Card.draw_all.Given as goal
 
 abbrev pub invariant-loop-i : goal.invariant-loop-i
@@ -10,4 +10,5 @@ invariant-loop-i g l = record {
   drawn : (f : ℕ → ℕ → Pixel) → Holds l.fn.self f → Holds l.self (after_triangles l.fn.self l.fn.origin (take l.i l.triangles) f);
   others : OnlyDrawn l.fn.self l.self;
   sides : KeepSides l.fn.self l.self;
+  bound : l.steps ≤ l.fn.steps + 4 * covered_centres l.fn.self l.fn.origin (take l.i l.triangles);
 }

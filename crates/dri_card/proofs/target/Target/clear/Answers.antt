@@ -1,6 +1,6 @@
 -- Both planes are filled.
 use Rattle.dri_base.specs.Planes.{in_rect}
-use Rattle.dri_card.proofs.PairPlanes.{pairs_written}
+use Rattle.dri_plane.proofs.PairPlanes.{pairs_written}
 use Rattle.dri_card.proofs.target.Target.clear.Goals as goal
 
 pub returns-clause-pairs : goal.returns-clause-pairs

@@ -1,12 +1,14 @@
-use Rattle.std.proofs.Common.{◌≡◌, ◌∙◌, List, None, ap, sym, subst}
-use Rattle.std.specs.Prelude.{All}
+use Rattle.std.proofs.Common.{◌≡◌, ◌≤◌, ◌+◌, ◌*◌, ◌∙◌, ℕ, List, None, ap, sym, subst}
+use Rattle.std.specs.Prelude.{All, IfSome, Option, ◌==◌}
 use Rattle.std.proofs.lemmas.Result.{err_from_is_err_and}
 use Rattle.dri_base.specs.declared.scene.Window.{Window}
 use Rattle.dri_base.specs.Ranges.{WindowInRange}
+use Rattle.dri_base.specs.Scenes.{named_by}
 use Rattle.dri_model.specs.Stacks.{Refusal, refusal, stack_after}
+use Rattle.dri_clips.specs.Areas.{others, reached}
 use Rattle.dri_clips.specs.Boards.{IsRestacked, Screen}
-use Rattle.dri_clips.specs.Layouts.{SameNumbers}
-use Rattle.dri_clips.proofs.Restacking.{after_numbers, after_ranged}
+use Rattle.dri_clips.specs.Layouts.{AreDistinct, SameNumbers}
+use Rattle.dri_clips.proofs.Restacking.{after_numbers, after_ranged, change_cost, others_after}
 use Rattle.dri_clips.proofs.Telling.{done_so, memory_so}
 use Rattle.dri_clips.proofs.board.Board.apply.Goals as goal
 
@@ -92,3 +94,26 @@ pub returns-clause-not_mapped : goal.returns-clause-not_mapped
 returns-clause-not_mapped g c =
     let none : refusal c.args.change.now c.args.self.now.stack ≡ None = rw (← c.self.view_is) c.in_ok-at.ensures.ok in
     done_so (refusal c.args.change.now c.args.self.now.stack) c.in_ok-restack.field-0 _ Refusal.NotMapped none
+
+pub restack-requires-clause-others : goal.restack-requires-clause-others
+restack-requires-clause-others g c =
+    subst (λ (n : ℕ). others (λ w. w.number == n) c.args.self.now.stack ≡ others (λ w. w.number == n) c.in_ok-stack.stack) (sym c.window.ensures)
+    (subst (λ (v : Screen). others (λ w. w.number == named_by c.args.change.now) v.stack ≡ others (λ w. w.number == named_by c.args.change.now) c.in_ok-stack.stack) c.self.view_is
+    (others_after c.args.change.now c.self.inside.layout.stack ∙ ap (λ (ws : List Window). others (λ w. w.number == named_by c.args.change.now) ws) (sym c.in_ok-stack.ensures)))
+
+pub returns-in_err-restack-clause-steps : goal.returns-in_err-restack-clause-steps
+returns-in_err-restack-clause-steps g c =
+    subst (λ (ws : List Window). c.restack.new.steps ≤ c.args.steps.now + (8 * reached (λ w. w.number == named_by c.args.change.now) c.args.self.now.stack ws + 16)) (c.in_ok-stack.ensures ∙ ap (λ (v : Screen). stack_after c.args.change.now v.stack) c.self.view_is)
+    (subst (λ (n : ℕ). c.restack.new.steps ≤ c.args.steps.now + (8 * reached (λ w. w.number == n) c.args.self.now.stack c.in_ok-stack.stack + 16)) c.window.ensures
+    (change_cost c.window.result c.args.self.now.stack c.in_ok-stack.stack c.args.steps.now c.restack.new.steps (subst (λ (v : Screen). AreDistinct v.stack) c.self.view_is c.self.invariant.0.apart) c.arranged.ensures c.restack.ensures.steps))
+
+pub returns-clause-steps : goal.returns-clause-steps
+returns-clause-steps g c =
+    subst (λ (ws : List Window). c.restack.new.steps ≤ c.args.steps.now + (8 * reached (λ w. w.number == named_by c.args.change.now) c.args.self.now.stack ws + 16)) (c.in_ok-stack.ensures ∙ ap (λ (v : Screen). stack_after c.args.change.now v.stack) c.self.view_is)
+    (subst (λ (n : ℕ). c.restack.new.steps ≤ c.args.steps.now + (8 * reached (λ w. w.number == n) c.args.self.now.stack c.in_ok-stack.stack + 16)) c.window.ensures
+    (change_cost c.window.result c.args.self.now.stack c.in_ok-stack.stack c.args.steps.now c.restack.new.steps (subst (λ (v : Screen). AreDistinct v.stack) c.self.view_is c.self.invariant.0.apart) c.arranged.ensures c.restack.ensures.steps))
+
+pub returns-clause-refused : goal.returns-clause-refused
+returns-clause-refused g c =
+    let none : refusal c.args.change.now c.args.self.now.stack ≡ None = rw (← c.self.view_is) c.in_ok-at.ensures.ok in
+    subst (λ (o : Option Refusal). IfSome o (λ _. c.restack.new.steps ≡ c.args.steps.now)) (sym none) tt

@@ -4,6 +4,7 @@ use Rattle.std.proofs.lemmas.Int.{ints}
 use Rattle.dri_walk.specs.Clips.{in_window}
 use Rattle.dri_walk.specs.Drawings.{pair_by, painted}
 use Rattle.dri_walk.specs.Surfaces.{PairsBecome, drawn_at, in_row, run_painted}
+use Rattle.dri_walk.proofs.Counts.{run_counts}
 use Rattle.dri_walk.proofs.Painting.{becomes_alike}
 use Rattle.dri_walk.proofs.Ready.{less_plain}
 use Rattle.dri_walk.proofs.Runs.{is_run, near_window, no_places, none_here, row_stays, run_covered, run_is_row, run_places, span_here}
@@ -121,3 +122,19 @@ returns-clause-pairs g c =
     (drawn_at (in_row y r.x1 r.x2) o (pair_by s.kept d colours blend))
     (run_is_row s.kept d colours blend o r y (pos y -ℤ o.y) left right (λ i. pos y -ℤ o.y) (run_places d.setup r o y (pos y -ℤ o.y) c.in-Some.span left right span (λ i. pos y -ℤ o.y) c.requires.from c.requires.until lefts rights))
     painted_run
+
+pub returns-clause-bound : goal.returns-clause-bound
+returns-clause-bound g c =
+    let d = c.args.self.now in
+    let r = c.args.rect.now in
+    let o = c.args.origin in
+    let y = c.args.y in
+    let small : y < 65536 = omega (arith, c.ranges.y) in
+    let here = less_plain y o.y c.less-row.result small c.requires.y c.less-row.ensures in
+    let span = span_here d.setup c.windowed.result (in_window r o) _ (pos y -ℤ o.y) c.in-Some.span c.windowed.ensures here c.in-Some.ensures in
+    let run = is_run d.setup r o (pos y -ℤ o.y) c.in-Some.span c.requires.x c.requires.small.right span in
+    let lefts : pos c.on_screen-left.result ≡ (c.in-Some.span.x1 +ℤ o.x) = c.on_screen-left.ensures ∙ (λ i. run.x1_plain i +ℤ run.left_plain i) in
+    let rights : pos c.on_screen-right.result ≡ (c.in-Some.span.x2 +ℤ o.x) = c.on_screen-right.ensures ∙ (λ i. run.x2_plain i +ℤ run.left_plain i) in
+    let counts = run_counts d.setup r o y c.in-Some.span c.on_screen-left.result c.on_screen-right.result span lefts rights in
+    let cost = c.draw_run.ensures.cost in
+    omega (arith, counts, cost)

@@ -1,0 +1,227 @@
+//! The worked triangles.
+
+ghost use Rattle.std.specs.Prelude.{◌≡◌};
+ghost use Rattle.dri_base.specs.Ranges.{IsVertexPlace, TriangleInRange, VertexInRange};
+
+use dri_base::{Point, Rect, Rgba, Triangle, Vertex};
+use dri_raster::{Channel, Setup, Span, common_edge, covered_is_amid};
+use std::process::Abort;
+use std::test::Fail;
+
+/// The first four rows' first four pixels.
+const SQUARE: Rect = Rect {
+    x1: 0,
+    y1: 0,
+    x2: 4,
+    y2: 4,
+};
+
+fn corner(x: i32, y: i32) -> Vertex
+    requires x { IsVertexPlace x }
+    requires y { IsVertexPlace y }
+    ensures x { result.x ≡ x }
+    ensures y { result.y ≡ y }
+{
+    Vertex {
+        x,
+        y,
+        z: 65535,
+        colour: Rgba {
+            r: 255,
+            g: 128,
+            b: 64,
+            a: 0,
+        },
+        s: 16,
+        t: 32,
+    }
+}
+
+fn deep(x: i32, y: i32, z: u16) -> Vertex
+    requires x { IsVertexPlace x }
+    requires y { IsVertexPlace y }
+    ensures x { result.x ≡ x }
+    ensures y { result.y ≡ y }
+{
+    let mut vertex = corner(x, y);
+    vertex.z = z;
+    vertex
+}
+
+/// Two halves of a square of four by four pixels share its diagonal.
+#[test]
+fn halves(rt: HostRuntime) -> Result<(), Fail> {
+    let upper = Triangle {
+        a: corner(64, 0),
+        b: corner(0, 64),
+        c: corner(0, 0),
+    };
+    let lower = Triangle {
+        a: corner(64, 0),
+        b: corner(0, 64),
+        c: corner(64, 64),
+    };
+    common_edge(&upper, &lower);
+    let first = Setup::new(&upper).expect(&rt, "the upper half has an area");
+    let second = Setup::new(&lower).expect(&rt, "the lower half has an area");
+    for y in 0..4u8 {
+        for x in 0..4u8 {
+            let (column, row) = (i32::from(x), i32::from(y));
+            assert_eq!(rt; first.covers(column, row), x + y <= 2);
+            assert_eq!(rt; second.covers(column, row), x + y > 2);
+        }
+    }
+    let points: Vec<Point> = first.for_rect(&SQUARE).collect(rt.alloc())?;
+    let places: [(i32, i32); 6] = [(0, 0), (1, 0), (2, 0), (0, 1), (1, 1), (0, 2)];
+    assert_eq!(rt; points.len(), 6);
+    for (point, (x, y)) in points.iter().zip(places) {
+        assert!(rt; *point == Point { x, y });
+    }
+    assert_eq!(rt; second.for_rect(&SQUARE).count(), 10);
+    assert_eq!(rt; first.span(0, &SQUARE), Some(Span { x1: 0, x2: 3 }));
+    assert_eq!(rt; first.span(2, &SQUARE), Some(Span { x1: 0, x2: 1 }));
+    assert!(rt; first.span(3, &SQUARE).is_none());
+    Ok(())
+}
+
+/// The largest triangle, at a pixel of its middle.
+#[test]
+fn largest(rt: HostRuntime) {
+    let triangle = Triangle {
+        a: corner(-32768, -32768),
+        b: corner(32767, -32768),
+        c: corner(-32768, 32767),
+    };
+    let setup = Setup::new(&triangle).expect(&rt, "the triangle has an area");
+    assert!(rt; setup.covers(-1, -1));
+    for (channel, value) in [
+        (Channel::Z, 65535),
+        (Channel::R, 255),
+        (Channel::G, 128),
+        (Channel::B, 64),
+        (Channel::A, 0),
+        (Channel::S, 16),
+        (Channel::T, 32),
+    ] {
+        assert_eq!(rt; setup.value_at(channel, -1, -1), value);
+    }
+}
+
+/// A quantity along a row, by steps.
+#[test]
+fn running(rt: HostRuntime) {
+    covered_is_amid();
+    let triangle = Triangle {
+        a: deep(0, 0, 0),
+        b: deep(64, 0, 64),
+        c: deep(0, 64, 0),
+    };
+    let setup = Setup::new(&triangle).expect(&rt, "the triangle has an area");
+    assert!(rt; setup.covers(0, 0));
+    assert!(rt; setup.covers(1, 0));
+    assert!(rt; setup.covers(2, 0));
+    let mut runner = setup.runner(Channel::Z, 0, 0);
+    assert_eq!(rt; runner.value(), 8);
+    runner.step();
+    assert_eq!(rt; runner.value(), 24);
+    runner.step();
+    assert_eq!(rt; runner.value(), 40);
+    assert!(rt; setup.covers(1, 1));
+    runner.stand_at(1, 1);
+    assert_eq!(rt; runner.value(), 24);
+}
+
+/// Three equal points have no area.
+#[test]
+fn empty(rt: HostRuntime) {
+    let triangle = Triangle {
+        a: corner(5, 5),
+        b: corner(5, 5),
+        c: corner(5, 5),
+    };
+    assert!(rt; Setup::new(&triangle).is_none());
+}
+
+/// The middle of the plane.
+const MIDDLE: Rect = Rect {
+    x1: -2,
+    y1: -2,
+    x2: 2,
+    y2: 2,
+};
+
+/// A corner at a place in range.
+fn placed<R: Abort>(rt: &R, place: (i32, i32)) -> Vertex
+    ensures { VertexInRange result }
+{
+    let (x, y) = place;
+    assert!(rt; -32768 <= x && x <= 32767);
+    assert!(rt; -32768 <= y && y <= 32767);
+    corner(x, y)
+}
+
+/// A triangle of three places in range.
+fn triangle<R: Abort>(rt: &R, places: [(i32, i32); 3]) -> Triangle
+    ensures { TriangleInRange result }
+{
+    Triangle {
+        a: placed(rt, places[0]),
+        b: placed(rt, places[1]),
+        c: placed(rt, places[2]),
+    }
+}
+
+/// How many pixels odd triangles cover: of the square, one a pixel wide, one of a row, and those that lie wholly left, right,
+/// above and below; of the middle, one whose corners are as far apart as can be.
+#[test]
+fn odd(rt: HostRuntime) -> Result<(), Fail> {
+    for (places, in_square, in_middle) in [
+        ([(16, 0), (32, 0), (16, 64)], 2, 2),
+        ([(0, 0), (64, 0), (0, 16)], 2, 2),
+        ([(-64, 0), (-16, 0), (-64, 64)], 0, 1),
+        ([(80, 0), (144, 0), (80, 64)], 0, 0),
+        ([(0, -64), (64, -64), (0, -16)], 0, 1),
+        ([(0, 80), (64, 80), (0, 144)], 0, 0),
+        ([(-32768, -32768), (32767, -32768), (-32768, 32767)], 0, 6),
+    ] {
+        let setup = Setup::new(&triangle(&rt, places)).expect(&rt, "the triangle has an area");
+        let square: Vec<Point> = setup.for_rect(&SQUARE).collect(rt.alloc())?;
+        let middle: Vec<Point> = setup.for_rect(&MIDDLE).collect(rt.alloc())?;
+        assert_eq!(rt; square.len(), in_square);
+        assert_eq!(rt; middle.len(), in_middle);
+    }
+    Ok(())
+}
+
+/// Eight triangles round the centre of a pixel, whose common edges go in all eight directions through centres: each pixel of
+/// the square of eight by eight that they make is covered by one of them.
+#[test]
+fn fan(rt: HostRuntime) {
+    let ring = [
+        (136, 72),
+        (136, 136),
+        (72, 136),
+        (8, 136),
+        (8, 72),
+        (8, 8),
+        (72, 8),
+        (136, 8),
+        (136, 72),
+    ];
+    for y in 0..8u8 {
+        for x in 0..8u8 {
+            let mut times: u32 = 0;
+            for i in 0..8_usize {
+                let places = [(72, 72), ring[i], ring[i + 1]];
+                let setup = Setup::new(&triangle(&rt, places)).expect(
+                    &rt,
+                    "the triangle has an area",
+                );
+                if setup.covers(i32::from(x), i32::from(y)) {
+                    times = times.wrapping_add(1);
+                }
+            }
+            assert_eq!(rt; times, 1);
+        }
+    }
+}

@@ -1,4 +1,0 @@
-use Rattle.dri_leaf_tests.proofs.plane.calls.Given as goal
-
-abbrev pub ghosts-call_each : goal.ghosts-call_each
-ghosts-call_each b a = record { name = a.blank.name; parts = a.blank.parts }

@@ -1,0 +1,91 @@
+-- Places of a plane of colours and one of depths that are painted along a row.
+use Rattle.std.proofs.Common.{◌≡◌, ℕ, ◌+◌, ◌*◌, ◌<◌, ◌≤◌, List, get_or, slice_set, Bool, true, false, ◌&&◌, ◌==◌, if◌then◌else◌, Option, Some, None, refl, ap, ◌∙◌, arith}
+use Rattle.std.proofs.lemmas.Bool.Decides.{nat_tests}
+use Rattle.std.proofs.lemmas.Bool.{eqb-true}
+use Rattle.dri_base.specs.declared.colour.Pixel.{Pixel}
+use Rattle.dri_base.specs.declared.colour.Rgb.{Rgb}
+use Rattle.dri_plane.specs.Grids.{Grid, is_place}
+use Rattle.dri_plane.specs.Runs.{HoldPairs, grid, in_row, left_by, place_painted, run_painted}
+use Rattle.dri_base.proofs.PlaneLists.{pixel_at}
+use Rattle.std.proofs.lemmas.Nat.{div-mul-add, mod-mul-add, mul-add-lt}
+use Rattle.dri_plane.proofs.Planes.{plane_put}
+use Rattle.dri_plane.proofs.PairPlanes.{pairs_written}
+use Rattle.dri_plane.specs.Alike.{pairs_same}
+
+-- a pair that is written where it is painted
+pub written_painted : (back : Grid Rgb) (depth : Grid ℕ) (x y : ℕ) (paint : ℕ → Pixel → Option Pixel) (under pixel : Pixel) (f : ℕ → ℕ → Pixel) → under ≡ f x y → Some pixel ≡ paint x under
+    → HoldPairs back depth (λ a b. if is_place x y a b then pixel else f a b) → HoldPairs back depth (place_painted paint x y f)
+written_painted back depth x y paint under pixel f reads is writes =
+    pairs_same back depth _ _ (λ a b. by a b (a == x) (b == y) (eqb-true a x) (eqb-true b y)) writes
+  where
+    by : (a b : ℕ) (p q : Bool) → (p ≡ true → a ≡ x) → (q ≡ true → b ≡ y) → (if p && q then pixel else f a b) ≡ (if p && q then left_by (λ v. v) (paint a (f a b)) (f a b) else f a b)
+    by a b true true ex ey = rw (ex refl, ey refl) (ap (λ o. left_by (λ v. v) o (f x y)) (is ∙ ap (paint x) reads))
+    by a b true false ex ey = refl
+    by a b false q ex ey = refl
+
+-- a pair that stays, since nothing is painted
+pub stayed_painted : (back : Grid Rgb) (depth : Grid ℕ) (x y : ℕ) (paint : ℕ → Pixel → Option Pixel) (under : Pixel) (f : ℕ → ℕ → Pixel) → under ≡ f x y → None ≡ paint x under
+    → HoldPairs back depth f → HoldPairs back depth (place_painted paint x y f)
+stayed_painted back depth x y paint under f reads is holds =
+    pairs_same back depth _ _ (λ a b. by a b (a == x) (b == y) (eqb-true a x) (eqb-true b y)) holds
+  where
+    by : (a b : ℕ) (p q : Bool) → (p ≡ true → a ≡ x) → (q ≡ true → b ≡ y) → f a b ≡ (if p && q then left_by (λ v. v) (paint a (f a b)) (f a b) else f a b)
+    by a b true true ex ey = rw (ex refl, ey refl) (ap (λ o. left_by (λ v. v) o (f x y)) (is ∙ ap (paint x) reads))
+    by a b true false ex ey = refl
+    by a b false q ex ey = refl
+
+-- the first place of a run
+pub run_begins : (back : Grid Rgb) (depth : Grid ℕ) (paint : ℕ → Pixel → Option Pixel) (y left : ℕ) (f : ℕ → ℕ → Pixel) → HoldPairs back depth (place_painted paint left y f) → HoldPairs back depth (run_painted (λ p. p) paint y left (left + 1) f)
+run_begins back depth paint y left f holds =
+    pairs_same back depth _ _ (λ a b. ap (λ here. if here then left_by (λ p. p) (paint a (f a b)) (f a b) else f a b) (one a b)) holds
+  where
+    one : (a b : ℕ) → is_place left y a b ≡ in_row y left (left + 1) a b
+    one a b = grind (arith, nat_tests)
+
+-- and one place more
+pub run_more : (back : Grid Rgb) (depth : Grid ℕ) (paint : ℕ → Pixel → Option Pixel) (y left x : ℕ) (f : ℕ → ℕ → Pixel) → left ≤ x
+    → HoldPairs back depth (place_painted paint x y (run_painted (λ p. p) paint y left x f)) → HoldPairs back depth (run_painted (λ p. p) paint y left (x + 1) f)
+run_more back depth paint y left x f from holds =
+    pairs_same back depth _ _ (λ a b. by a b (in_row y left x a b) (is_place x y a b) (joined a b) (apart a b)) holds
+  where
+    joined : (a b : ℕ) (drawn kept : Pixel) → (if in_row y left x a b then (if is_place x y a b then kept else drawn) else (if is_place x y a b then drawn else kept)) ≡ (if in_row y left (x + 1) a b then drawn else kept)
+    joined a b drawn kept = grind (arith, nat_tests)
+
+    apart : (a b : ℕ) → (in_row y left x a b && is_place x y a b) ≡ false
+    apart a b = grind (arith, nat_tests)
+
+    drawn_on : (a b : ℕ) → Pixel → Pixel
+    drawn_on a b under = left_by (λ p. p) (paint a under) under
+
+    by : (a b : ℕ) (p q : Bool) → ((drawn kept : Pixel) → (if p then (if q then kept else drawn) else (if q then drawn else kept)) ≡ (if in_row y left (x + 1) a b then drawn else kept)) → (p && q) ≡ false
+        → (if q then drawn_on a b (if p then drawn_on a b (f a b) else f a b) else (if p then drawn_on a b (f a b) else f a b)) ≡ (if in_row y left (x + 1) a b then drawn_on a b (f a b) else f a b)
+    by a b true true joined apart = cc
+    by a b true false joined apart = joined _ _
+    by a b false true joined apart = joined _ _
+    by a b false false joined apart = joined _ _
+
+-- ---- two lists of rows
+-- the pair at a place of them
+pub pair_listed : (width height : ℕ) (colours : List Rgb) (depths : List ℕ) (f : ℕ → ℕ → Pixel) (x y place : ℕ) (c : Rgb) (z : ℕ) → place ≡ y * width + x → x < width → y < height
+    → HoldPairs (grid width height colours) (grid width height depths) f → record { colour = get_or colours place c; depth = get_or depths place z } ≡ f x y
+pair_listed width height colours depths f x y place c z at column row holds = λ i. record { colour = one i; depth = other i } where
+  inside : y * width + x < width * height
+  inside = mul-add-lt y width x height row column
+
+  one : get_or colours place c ≡ (f x y).colour
+  one = ap (λ k. get_or colours k c) at ∙ ap (λ l. get_or l (y * width + x) c) holds.colours ∙ pixel_at width (λ a b. (f a b).colour) (width * height) (y * width + x) c inside
+      ∙ (λ i. (f (mod-mul-add y width x column i) (div-mul-add y width x column i)).colour)
+
+  other : get_or depths place z ≡ (f x y).depth
+  other = ap (λ k. get_or depths k z) at ∙ ap (λ l. get_or l (y * width + x) z) holds.depths ∙ pixel_at width (λ a b. (f a b).depth) (width * height) (y * width + x) z inside
+      ∙ (λ i. (f (mod-mul-add y width x column i) (div-mul-add y width x column i)).depth)
+
+-- a pair that is written there
+pub pair_set : (width height : ℕ) (colours : List Rgb) (depths : List ℕ) (f : ℕ → ℕ → Pixel) (x y place : ℕ) (pixel : Pixel) → place ≡ y * width + x → x < width → y < height
+    → HoldPairs (grid width height colours) (grid width height depths) f
+    → HoldPairs (grid width height (slice_set colours place pixel.colour)) (grid width height (slice_set depths place pixel.depth)) (λ a b. if is_place x y a b then pixel else f a b)
+pair_set width height colours depths f x y place pixel at column row holds =
+    pairs_written (grid width height colours) (grid width height (slice_set colours place pixel.colour)) (grid width height depths) (grid width height (slice_set depths place pixel.depth)) (is_place x y) pixel f (refl, refl) (refl, refl)
+    (λ g was. ap (λ k. slice_set colours k pixel.colour) at ∙ ap (λ l. slice_set l (y * width + x) pixel.colour) was ∙ plane_put width height g x y pixel.colour column row)
+    (λ g was. ap (λ k. slice_set depths k pixel.depth) at ∙ ap (λ l. slice_set l (y * width + x) pixel.depth) was ∙ plane_put width height g x y pixel.depth column row)
+    holds

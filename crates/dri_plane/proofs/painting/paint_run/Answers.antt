@@ -1,0 +1,57 @@
+-- One place more, and all.
+use Rattle.std.proofs.Common.{◌≡◌, ◌+◌, ◌-◌, ◌≤◌, refl, subst, ◌∙◌, arith}
+use Rattle.dri_plane.specs.Runs.{HoldPairs, grid, place_painted, run_painted}
+use Rattle.dri_plane.proofs.Painted.{run_begins, run_more}
+use Rattle.dri_plane.proofs.painting.paint_run.Goals as goal
+
+pub loop-x-init : goal.loop-x-init
+loop-x-init g c =
+    let w = c.args.width in
+    let h = c.args.height in
+    let one = c.paint_place.ensures in
+    let first : c.args.left ≡ c.args.left + 1 - 1 = omega arith in
+    record {
+      ready = subst (g.P.Painter.ready c.args.painter.now) first c.requires.ready;
+      paints = refl;
+      end = c.requires.end;
+      colours = one.colours;
+      depths = one.depths;
+      pairs = λ f holds. run_begins (grid w h c.paint_place.new.colours) (grid w h c.paint_place.new.depths) (g.P.Painter.paints c.args.painter.now) c.args.y c.args.left f (one.pairs f holds);
+      least = omega (arith, one.least);
+      cost = omega (arith, one.cost);
+    }
+
+pub loop-x-preserved : goal.loop-x-preserved
+loop-x-preserved g c =
+    let w = c.args.width in
+    let h = c.args.height in
+    let one = c.paint_place-in-loop-x.ensures in
+    let back = grid w h c.paint_place-in-loop-x.new.colours in
+    let depth = grid w h c.paint_place-in-loop-x.new.depths in
+    let seen = c.loop-x.invariant in
+    let x = c.loop-x.x in
+    let y = c.args.y in
+    let left = c.args.left in
+    let paint = g.P.Painter.paints c.args.painter.now in
+    let past : left + 1 ≤ x = c.loop-x.auto.x in
+    let here : x - 1 + 1 ≡ x + 1 - 1 = omega (arith, past) in
+    let same = c.step.ensures.paints ∙ seen.paints in
+    record {
+      ready = subst (g.P.Painter.ready c.step.new.self) here c.step.ensures.ready;
+      paints = same;
+      end = c.step.ensures.end ∙ seen.end;
+      colours = one.colours ∙ seen.colours;
+      depths = one.depths ∙ seen.depths;
+      pairs = λ f holds. run_more back depth paint y left x f (omega (arith, past))
+          (subst (λ p. HoldPairs back depth (place_painted p x y (run_painted (λ v. v) paint y left x f))) same (one.pairs (run_painted (λ v. v) paint y left x f) (seen.pairs f holds)));
+      least = omega (arith, past, one.least, seen.least);
+      cost = omega (arith, past, one.cost, seen.cost);
+    }
+
+pub returns-clause-pairs : goal.returns-clause-pairs
+returns-clause-pairs g c f holds =
+    let w = c.args.width in
+    let h = c.args.height in
+    let some : c.args.left + 1 ≤ c.args.right = omega (arith, c.requires.some) in
+    let last : c.loop-x.x ≡ c.args.right = omega (arith, c.loop-x-test.false, c.loop-x.auto.x-end some) in
+    subst (λ x. HoldPairs (grid w h c.loop-x.colours) (grid w h c.loop-x.depths) (run_painted (λ v. v) (g.P.Painter.paints c.args.painter.now) c.args.y c.args.left x f)) last (c.loop-x.invariant.pairs f holds)

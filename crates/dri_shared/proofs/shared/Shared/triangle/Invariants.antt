@@ -1,5 +1,0 @@
--- The ledger of the blank.
-use Rattle.dri_shared.proofs.shared.Shared.triangle.Given as goal
-
-abbrev pub ghosts-draw_clips : goal.ghosts-draw_clips
-ghosts-draw_clips a = record { name = a.blank.name; parts = a.blank.parts }
