@@ -5,7 +5,7 @@ use Rattle.std.specs.Str.{bytes_eq}
 use Rattle.dri_base.specs.declared.scene.Scene.{Scene}
 use Rattle.dri_journal.specs.Readings.{entries_from, entry_of, journal_of_text, titled_from}
 use Rattle.dri_scene.specs.Places.{is_end}
-use Rattle.dri_scene.specs.Readings.{◌>>=◌ as ◌>=>◌, after_bytes, at_line as at_scene_line, begun, opening, part_of, up_to_done}
+use Rattle.dri_scene.specs.Readings.{after_bytes, begun, opening, part_of, up_to_done}
 use Rattle.dri_scene.specs.declared.part.Begun.{Begun}
 use Rattle.dri_scene.specs.declared.part.Part.{Part}
 use Rattle.dri_scene.specs.declared.reading.Reading.{Reading}
@@ -30,7 +30,7 @@ if_err P true held failed holds fails = holds refl
 if_err P false held failed holds fails = fails refl
 
 -- a step further
-then_ok : {A B E : Type 0} (P : B → Type 0) (r : Result A E) (f : A → Result B E) → ((x : A) → IfOk (f x) P) → IfOk (r >=> f) P
+then_ok : {A B E : Type 0} (P : B → Type 0) (r : Result A E) (f : A → Result B E) → ((x : A) → IfOk (f x) P) → IfOk (r >>= f) P
 then_ok P (Ok x) f all = all x
 then_ok P (Err e) f all = tt
 
@@ -38,7 +38,7 @@ then_err : {A B E : Type 0} (P : E → Type 0) (r : Result A E) (f : A → Resul
 then_err P (Ok x) f first all = all x
 then_err P (Err e) f first all = first
 
-after_ok : {A B E : Type 0} (P : A → Type 0) (Q : B → Type 0) (r : Result A E) (f : A → Result B E) → IfOk r P → ((x : A) → P x → IfOk (f x) Q) → IfOk (r >=> f) Q
+after_ok : {A B E : Type 0} (P : A → Type 0) (Q : B → Type 0) (r : Result A E) (f : A → Result B E) → IfOk r P → ((x : A) → P x → IfOk (f x) Q) → IfOk (r >>= f) Q
 after_ok P Q (Ok x) f first all = all x first
 after_ok P Q (Err e) f first all = tt
 
@@ -64,7 +64,7 @@ up_to : (n b : ℕ) (r : Reading) (lines : List (List ℕ)) → IfOk (up_to_done
 up_to n b r [] = tt
 up_to n b r (line ∷ more) =
     if_ok (EndsWithin n b (line ∷ more)) (is_nil more) _ _ (λ _. tt) (λ some.
-    then_ok (EndsWithin n b (line ∷ more)) (at_scene_line n (after_bytes r line)) _ (λ next.
+    then_ok (EndsWithin n b (line ∷ more)) (at_line n (after_bytes r line)) _ (λ next.
     if_ok (EndsWithin n b (line ∷ more)) (is_end next.place) _ _
     (λ _. record { bytes = omega (arith, some_size more some); lines_counted = omega arith })
     (λ _. weaker_ok (EndsWithin (n + 1) (b + length line + 1) more) (EndsWithin n b (line ∷ more)) _ (λ g. one_more n b _ line more g refl) (up_to (n + 1) (b + length line + 1) next more))))
