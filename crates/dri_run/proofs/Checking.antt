@@ -7,7 +7,7 @@ use Rattle.dri_journal.specs.declared.answer.Report.{Report}
 use Rattle.dri_run.specs.CheckedRun.{GivesReport, HasNoReport, IsCheckAnswer, IsJudged, IsReportDecided, IsReportOf, ReadsReport}
 use Rattle.dri_run.specs.Gains.{Sunk}
 use Rattle.dri_run.specs.Outcome.{AreTaken, Runs}
-use Rattle.dri_run.specs.Recordings.{HasNoRecording, IsDecided, IsRecordingOf, IsRefusalOf, most}
+use Rattle.dri_run.specs.Recordings.{HasNoRecording, IsDecided, IsRecordingOf, IsRefusalOf}
 use Rattle.dri_run.specs.declared.recording.Recording.{Recording}
 use Rattle.dri_run.specs.declared.status.Status.{Status}
 use Rattle.dri_run.specs.declared.status.Status.TheVariants as answers
