@@ -4,11 +4,16 @@ ghost use Rattle.std.specs.Prelude.{◌≡◌, ◌≢◌, ◌<◌, ◌≤◌, �
 ghost use Rattle.std.specs.Io.KnownBytes.{Consumes};
 ghost use Rattle.dri_base.specs.Limits.{word_end};
 ghost use Rattle.dri_base.specs.Ranges.{InRange};
+ghost use Rattle.dri_base.specs.declared.journal.Event.{Event};
+ghost use Rattle.dri_base.specs.declared.scene.Scene.{Scene};
+ghost use Rattle.dri_core.specs.Cores.{journal_of};
+ghost use Rattle.dri_core.specs.Runs.{HoldRun, Whole};
 ghost use Rattle.dri_io.specs.Causes.{Rose};
 ghost use Rattle.dri_journal.specs.declared.answer.Report.{Report};
 ghost use Rattle.dri_run.specs.Answering.{SaysChecked};
 ghost use Rattle.dri_run.specs.CheckedRun.{GivesReport, IsCheckAnswer, IsJudged, IsReportDecided, IsReportOf, ReadsReport};
 ghost use Rattle.dri_run.specs.Outcome.{AreTaken, Runs};
+ghost use Rattle.dri_run.specs.ScheduledRun.{IsRunOf};
 
 use crate::Status;
 use crate::recording::{Recording, read_recording};
@@ -17,6 +22,13 @@ use crate::writing::write;
 use dri_io::{Sink, Source};
 use dri_journal::{CheckFault, Report, check};
 use std::alloc::Global;
+
+/// What `turns` writes is a run for `check`: the journal of a scene's run by its schedule and rounds is a hold-run of the
+/// scene, and whole. It does nothing: its contract is the law.
+pub fn turns_are_accepted()
+    ensures run { (scene : Scene) (events : List Event) → InRange scene → IsRunOf scene events → HoldRun scene (journal_of events) }
+    ensures whole { (scene : Scene) (events : List Event) → InRange scene → IsRunOf scene events → Whole scene (journal_of events) }
+{}
 
 /// The report of a recording. An `Err` is the status to end with.
 fn judged(alloc: Global, recording: &Recording) -> Result<Report, Status>

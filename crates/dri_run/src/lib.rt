@@ -15,6 +15,7 @@ mod top;
 mod top_threads;
 mod writing;
 
+pub use checked::turns_are_accepted;
 pub use form::is_run;
 pub use status::Status;
 pub use top::drive;
