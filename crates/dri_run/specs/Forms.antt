@@ -5,11 +5,16 @@ use Rattle.std.specs.String.{string_bytes}
 use Rattle.std.specs.declared.string.String.{String}
 use Rattle.std.specs.declared.alloc.Global.{Global}
 use Rattle.dri_run.specs.declared.form.Form.{Form}
-use Rattle.dri_run.specs.declared.form.Form.TheVariants.{Turns, Sarea}
+use Rattle.dri_run.specs.declared.form.Form.TheVariants.{Scheduled, Check}
+use Rattle.dri_run.specs.declared.form.Shown.TheVariants.{Turns, Sarea}
 
 -- the form of one word
 abbrev pub form_of_word : List ℕ → Option Form
-form_of_word word = if bytes_eq word (codes "turns") then Some Turns else (if bytes_eq word (codes "sarea") then Some Sarea else None)
+form_of_word word =
+    if bytes_eq word (codes "turns") then Some (Scheduled Turns)
+    else if bytes_eq word (codes "sarea") then Some (Scheduled Sarea)
+    else if bytes_eq word (codes "check") then Some Check
+    else None
 
 -- the form of these words: each is one word alone
 abbrev pub form_of_words : List (List ℕ) → Option Form

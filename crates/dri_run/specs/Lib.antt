@@ -2,5 +2,8 @@ pub mod Notices
 pub mod Forms
 pub mod Gains
 pub mod Outcome
+pub mod Recordings
+pub mod CheckedRun
 pub mod ScheduledRun
 pub mod ThreadedRun
+pub mod Answering

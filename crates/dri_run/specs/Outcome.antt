@@ -17,10 +17,27 @@ use Rattle.dri_run.specs.declared.status.Status.TheVariants as answers
 abbrev pub most : ℕ
 most = 16777216
 
--- the bytes were read whole, within the limit
-pub record IsRead (given : List ℕ) (left : Option (List ℕ)) : Type 0 where
+-- the bytes were read whole, within a limit
+pub record IsReadWithin (limit : ℕ) (given : List ℕ) (left : Option (List ℕ)) : Type 0 where
   pub ended : IsAtEnd left
-  pub within : length given ≤ most
+  pub within : length given ≤ limit
+
+-- the bytes were read whole, within the limit of a scene's text
+abbrev pub IsRead : List ℕ → Option (List ℕ) → Type 0
+IsRead given left = IsReadWithin most given left
+
+-- the bytes that were given, or why they weren't read whole
+abbrev pub ReadsBytes : ℕ → Result (List ℕ) Status → List ℕ → Option (List ℕ) → Type 0
+ReadsBytes limit (Ok bytes) given left = (bytes ≡ given) × IsReadWithin limit given left
+ReadsBytes limit (Err answers.TooLong) given left = limit < length given
+ReadsBytes limit (Err answers.ReadFault) given left = length given ≤ limit
+ReadsBytes limit (Err answers.OutOfMemory) given left = Unit {0}
+ReadsBytes limit (Err _) given left = ⊥
+
+-- all the bytes where nothing fails, want of memory aside; or there are more than the limit
+abbrev pub AreDecided : ℕ → Result (List ℕ) Status → List ℕ → Type 0
+AreDecided limit (Ok read) bytes = (read ≡ bytes) × (length bytes ≤ limit)
+AreDecided limit (Err status) bytes = ((status ≡ answers.TooLong) × (limit < length bytes)) ⊎ (status ≡ answers.OutOfMemory)
 
 -- the bytes were read whole, and are the text of this scene
 pub record IsTextOf (scene : Scene) (given : List ℕ) (left : Option (List ℕ)) : Type 0 where
@@ -46,31 +63,35 @@ abbrev pub Reads : Result Scene Status → List ℕ → Option (List ℕ) → Ty
 Reads (Ok scene) given left = IsTextOf scene given left
 Reads (Err status) given left = HasNoScene status given left
 
--- the scene ran, and picture and notes were written, or one of their sinks failed
-pub record Ran (Gives : Scene → List ℕ → List ℕ → Type 0) (status : Status) (scene : Scene) (picture notes : Sunk) : Type 0 where
+-- what was read ran, and picture and notes were written, or one of their sinks failed
+pub record Ran {A : Type 0} (Gives : A → List ℕ → List ℕ → Type 0) (status : Status) (input : A) (picture notes : Sunk) : Type 0 where
   pub image : List ℕ
   pub text : List ℕ
-  pub given : Gives scene image text
+  pub given : Gives input image text
   pub written : Written status picture notes image text
 
--- what comes of a scene in range
-abbrev pub Runs : (Scene → List ℕ → List ℕ → Type 0) → Status → Scene → Sunk → Sunk → Type 0
-Runs Gives answers.Done scene picture notes = Ran Gives answers.Done scene picture notes
-Runs Gives answers.WriteFault scene picture notes = Ran Gives answers.WriteFault scene picture notes
-Runs Gives answers.OutOfMemory scene picture notes = GainsNothing picture × GainsNothing notes
-Runs Gives _ scene picture notes = ⊥
+-- what comes of what was read, as a scene in range
+abbrev pub Runs : {A : Type 0} → (A → List ℕ → List ℕ → Type 0) → Status → A → Sunk → Sunk → Type 0
+Runs Gives answers.Done input picture notes = Ran Gives answers.Done input picture notes
+Runs Gives answers.WriteFault input picture notes = Ran Gives answers.WriteFault input picture notes
+Runs Gives answers.OutOfMemory input picture notes = GainsNothing picture × GainsNothing notes
+Runs Gives _ input picture notes = ⊥
 
--- the bytes are the text of one scene, and it ran
-pub record RanText (Gives : Scene → List ℕ → List ℕ → Type 0) (status : Status) (given : List ℕ) (left : Option (List ℕ)) (picture notes : Sunk) : Type 0 where
-  pub scene : Scene
-  pub text : IsTextOf scene given left
-  pub ran : Ran Gives status scene picture notes
+-- the bytes spell one thing, as the text of one scene, and it ran
+pub record RanText {A : Type 0} (IsText : A → List ℕ → Option (List ℕ) → Type 0) (Gives : A → List ℕ → List ℕ → Type 0) (status : Status) (given : List ℕ) (left : Option (List ℕ)) (picture notes : Sunk) : Type 0 where
+  pub input : A
+  pub text : IsText input given left
+  pub ran : Ran Gives status input picture notes
+
+-- an answer to the bytes that were given: what they spell ran; else nothing was written, and HasNone says why
+abbrev pub SaysOf : {A : Type 0} → (A → List ℕ → Option (List ℕ) → Type 0) → (Status → List ℕ → Option (List ℕ) → Type 0) → (A → List ℕ → List ℕ → Type 0) → Status → List ℕ → Option (List ℕ) → Sunk → Sunk → Type 0
+SaysOf IsText HasNone Gives answers.Done given left picture notes = RanText IsText Gives answers.Done given left picture notes
+SaysOf IsText HasNone Gives answers.WriteFault given left picture notes = RanText IsText Gives answers.WriteFault given left picture notes
+SaysOf IsText HasNone Gives status given left picture notes = HasNone status given left × GainsNothing picture × GainsNothing notes
 
 -- an answer to the bytes that were given: the scene of the text ran; else nothing was written
 abbrev pub Says : (Scene → List ℕ → List ℕ → Type 0) → Status → List ℕ → Option (List ℕ) → Sunk → Sunk → Type 0
-Says Gives answers.Done given left picture notes = RanText Gives answers.Done given left picture notes
-Says Gives answers.WriteFault given left picture notes = RanText Gives answers.WriteFault given left picture notes
-Says Gives status given left picture notes = HasNoScene status given left × GainsNothing picture × GainsNothing notes
+Says Gives status given left picture notes = SaysOf IsTextOf HasNoScene Gives status given left picture notes
 
 -- the line of the status was written last, where it has one
 abbrev pub Tells : Status → Sunk → Type 0
@@ -106,6 +127,6 @@ abbrev pub IsDecided : Result Scene Status → List ℕ → Type 0
 IsDecided (Ok scene) bytes = (scene_of bytes ≡ Ok scene) × (answer_to bytes ≡ answers.Done)
 IsDecided (Err status) bytes = (status ≡ answer_to bytes) ⊎ (status ≡ answers.OutOfMemory)
 
--- two sinks take, without a fault, whatever a run of the scene gives
-abbrev pub AreTaken : (Scene → List ℕ → List ℕ → Type 0) → (ℕ → Type 0) → (ℕ → Type 0) → Scene → Type 0
-AreTaken Gives picture notes scene = (image text : List ℕ) → Gives scene image text → picture (length image) × notes (length text)
+-- two sinks take, without a fault, whatever what was read gives, as a run of a scene
+abbrev pub AreTaken : {A : Type 0} → (A → List ℕ → List ℕ → Type 0) → (ℕ → Type 0) → (ℕ → Type 0) → A → Type 0
+AreTaken Gives picture notes input = (image text : List ℕ) → Gives input image text → picture (length image) × notes (length text)

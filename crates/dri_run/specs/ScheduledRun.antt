@@ -1,6 +1,5 @@
--- What the words of the command line ask for, and what a scene's run by its schedule gives.
-use Rattle.std.specs.Prelude.{◌≡◌, ℕ, List, [], Some, None}
-use Rattle.std.specs.declared.option.Option.{Option}
+-- What a scene's run by its schedule gives.
+use Rattle.std.specs.Prelude.{◌≡◌, ℕ, List, []}
 use Rattle.dri_base.specs.declared.journal.Event.{Event}
 use Rattle.dri_base.specs.declared.scene.Scene.{Scene}
 use Rattle.dri_base.specs.Planes.{plane}
@@ -10,14 +9,10 @@ use Rattle.dri_core.specs.Runs.{Whole}
 use Rattle.dri_core.specs.Turns.{IsTurns}
 use Rattle.dri_sarea.specs.Images.{area_bytes}
 use Rattle.dri_shared.specs.Areas.{area_of}
-use Rattle.dri_run.specs.Gains.{GainsNothing, Sunk}
 use Rattle.dri_journal.specs.Journals.{journal_text}
-use Rattle.dri_run.specs.Outcome.{Says}
 use Rattle.dri_ppm.specs.Ppm.{ppm}
-use Rattle.dri_run.specs.declared.form.Form.{Form}
-use Rattle.dri_run.specs.declared.form.Form.TheVariants.{Turns, Sarea}
-use Rattle.dri_run.specs.declared.status.Status.{Status}
-use Rattle.dri_run.specs.declared.status.Status.TheVariants as answers
+use Rattle.dri_run.specs.declared.form.Shown.{Shown}
+use Rattle.dri_run.specs.declared.form.Shown.TheVariants.{Turns, Sarea}
 
 -- the run of a scene's schedule, and then of rounds until nothing is left to do
 pub record IsRunOf (scene : Scene) (events : List Event) : Type 0 where
@@ -32,24 +27,18 @@ pub record IsRunOf (scene : Scene) (events : List Event) : Type 0 where
   pub whole : Whole scene (journal_of events)
 
 -- what the picture gains: the screen in the P6 form, or the image of the shared area
-abbrev pub picture_of : Form → Scene → List Event → List ℕ
+abbrev pub picture_of : Shown → Scene → List Event → List ℕ
 picture_of Turns scene events = ppm scene.width scene.height (plane scene.width scene.height (world_of scene events).front)
 picture_of Sarea scene events = area_bytes (area_of scene (world_of scene events) (word_number (after_events scene (opening_core scene) events).word))
 
 -- what the notes gain: the journal, or nothing
-abbrev pub notes_of : Form → List Event → List ℕ
+abbrev pub notes_of : Shown → List Event → List ℕ
 notes_of Turns events = journal_text (journal_of events)
 notes_of Sarea events = []
 
--- what the run gives in this form
-pub record GivesByForm (form : Form) (scene : Scene) (image text : List ℕ) : Type 0 where
+-- what is shown of the run
+pub record GivesByForm (shown : Shown) (scene : Scene) (image text : List ℕ) : Type 0 where
   pub events : List Event
   pub run : IsRunOf scene events
-  pub picture : image ≡ picture_of form scene events
-  pub notes : text ≡ notes_of form events
-
--- an answer to the words: those of no form say nothing of the bytes
-abbrev pub SaysTo : Option Form → Status → List ℕ → Option (List ℕ) → Sunk → Sunk → Type 0
-SaysTo (Some form) status given left picture notes = Says (GivesByForm form) status given left picture notes
-SaysTo None answers.Usage given left picture notes = GainsNothing picture × GainsNothing notes
-SaysTo None _ given left picture notes = ⊥
+  pub picture : image ≡ picture_of shown scene events
+  pub notes : text ≡ notes_of shown events

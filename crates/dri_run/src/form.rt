@@ -3,13 +3,22 @@
 ghost use Rattle.std.specs.Prelude.{◌≡◌};
 ghost use Rattle.dri_run.specs.Forms.{form_of, form_of_word, is_run};
 
-/// What the words ask for.
-#[derive(Clone, Copy, Debug, PartialEq, Eq)]
-pub enum Form {
-    /// `turns`: the picture and the journal of a scene.
+/// What is shown of a scene's run.
+#[derive(Clone, Copy)]
+pub enum Shown {
+    /// `turns`: the screen, and the journal.
     Turns,
-    /// `sarea`: the shared area that a scene leaves.
+    /// `sarea`: the shared area.
     Sarea,
+}
+
+/// What the words ask for.
+#[derive(Clone, Copy)]
+pub enum Form {
+    /// A scene's run by its schedule.
+    Scheduled(Shown),
+    /// `check`: whether a journal is a run of a scene.
+    Check,
 }
 
 /// What one word asks for.
@@ -17,9 +26,11 @@ fn form_of_word(word: &str) -> Option<Form>
     ensures { result ≡ form_of_word word.now }
 {
     if word == "turns" {
-        Some(Form::Turns)
+        Some(Form::Scheduled(Shown::Turns))
     } else if word == "sarea" {
-        Some(Form::Sarea)
+        Some(Form::Scheduled(Shown::Sarea))
+    } else if word == "check" {
+        Some(Form::Check)
     } else {
         None
     }

@@ -32,13 +32,13 @@ fn word_of(reason: Reason) -> &'static str
 }
 
 /// Puts a number last, for which there is room.
-fn push_number(notice: &mut Notice, number: u32)
-    requires { array_string_len notice.old ≤ 64 }
-    ensures bytes { notice.new.bytes ≡ notice.old.bytes ++ decimal number }
-    ensures room { array_string_len notice.new ≤ array_string_len notice.old + 40 }
+pub fn push_number<const N: usize>(line: &mut ArrayString<N>, number: u32)
+    requires { array_string_len line.old + 40 ≤ N }
+    ensures bytes { line.new.bytes ≡ line.old.bytes ++ decimal number }
+    ensures room { array_string_len line.new ≤ array_string_len line.old + 40 }
 {
     let mut digits = Buffer::new();
-    notice.push_str(digits.format(number));
+    line.push_str(digits.format(number));
 }
 
 /// The line of a refused text.

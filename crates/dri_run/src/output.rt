@@ -7,9 +7,9 @@ ghost use Rattle.dri_base.specs.Ranges.{InRange};
 ghost use Rattle.dri_journal.specs.Journals.{FitsWords, journal_text};
 ghost use Rattle.dri_ppm.specs.Ppm.{ppm};
 ghost use Rattle.dri_run.specs.ScheduledRun.{GivesByForm, IsRunOf, notes_of, picture_of};
-ghost use Rattle.dri_run.specs.declared.form.Form.TheVariants.{Sarea};
+ghost use Rattle.dri_run.specs.declared.form.Shown.TheVariants.{Sarea};
 
-use crate::form::Form;
+use crate::form::Shown;
 use crate::writing::Output;
 use dri_base::{Bytes, Entry, OutOfMemory, Rgb, Scene};
 use dri_journal::print_journal;
@@ -60,24 +60,24 @@ fn area_of(alloc: Global, world: &World) -> Result<Output, OutOfMemory>
     })
 }
 
-/// What a world gives in this form.
-fn given(alloc: Global, form: Form, world: &World) -> Result<Output, OutOfMemory>
-    ensures picture { IfOk result (λ o. o.picture ≡ picture_of form world.now.scene world.now.events) }
-    ensures notes { IfOk result (λ o. o.notes ≡ notes_of form world.now.events) }
+/// What is shown of a world.
+fn given(alloc: Global, shown: Shown, world: &World) -> Result<Output, OutOfMemory>
+    ensures picture { IfOk result (λ o. o.picture ≡ picture_of shown world.now.scene world.now.events) }
+    ensures notes { IfOk result (λ o. o.notes ≡ notes_of shown world.now.events) }
 {
-    match form {
-        Form::Turns => screen_of(alloc, world.front(), world.journal()),
-        Form::Sarea => area_of(alloc, world),
+    match shown {
+        Shown::Turns => screen_of(alloc, world.front(), world.journal()),
+        Shown::Sarea => area_of(alloc, world),
     }
 }
 
-/// What a scene's run gives in this form.
-pub fn output_of(alloc: Global, form: Form, scene: Scene) -> Result<Output, OutOfMemory>
+/// What is shown of a scene's run.
+pub fn output_of(alloc: Global, shown: Shown, scene: Scene) -> Result<Output, OutOfMemory>
     requires { InRange scene }
-    ensures { IfOk result (λ o. GivesByForm form scene o.picture o.notes) }
+    ensures { IfOk result (λ o. GivesByForm shown scene o.picture o.notes) }
 {
     let scene = Arc::new(alloc, scene)?;
     let world = run(alloc, &scene)?;
-    let output = given(alloc, form, &world)?;
+    let output = given(alloc, shown, &world)?;
     Ok(output)
 }

@@ -9,52 +9,54 @@ ghost use Rattle.dri_run.specs.Forms.{form_of};
 ghost use Rattle.dri_run.specs.Gains.{GainsAll};
 ghost use Rattle.dri_run.specs.Notices.{line_of};
 ghost use Rattle.dri_run.specs.Outcome.{Answers, AreTaken, Runs, Says, answer_to};
-ghost use Rattle.dri_run.specs.ScheduledRun.{GivesByForm, SaysTo};
+ghost use Rattle.dri_run.specs.Answering.{IsAnswerTo, SaysTo, TakesAllOf};
+ghost use Rattle.dri_run.specs.ScheduledRun.{GivesByForm};
 ghost use Rattle.dri_scene.specs.Readings.{scene_of};
 ghost use Rattle.dri_base.specs.declared.scene.Scene.{Scene};
 ghost use Rattle.dri_base.specs.Ranges.{InRange};
 
 use crate::Status;
-use crate::form::{Form, form_of};
+use crate::checked::obey_check;
+use crate::form::{Form, Shown, form_of};
 use crate::output::output_of;
 use crate::reading::read;
-use crate::writing::{tell, write};
+use crate::writing::{tell, write_output};
 use dri_base::Scene;
 use dri_io::{Sink, Source};
 use std::alloc::Global;
 
-/// Runs a scene and writes what the form asks for.
+/// Runs a scene and writes what is shown of the run.
 fn run<P: Sink, N: Sink>(
     alloc: Global,
-    form: Form,
+    shown: Shown,
     scene: Scene,
     picture: &mut P,
     notes: &mut N,
 ) -> Status
     requires { InRange scene }
-    ensures ran { Runs (GivesByForm form) result scene
+    ensures ran { Runs (GivesByForm shown) result scene
         (record { held = P.held picture.old; holds = P.held picture.new; before = P.faults picture.old; now = P.faults picture.new })
         (record { held = N.held notes.old; holds = N.held notes.new; before = N.faults notes.old; now = N.faults notes.new }) }
     ensures later { N.faults notes.old ≤ N.faults notes.new }
     ensures unwritten { result ≡ Status.OutOfMemory → (picture.new ≡ picture.old) × (notes.new ≡ notes.old) }
-    ensures taken { AreTaken (GivesByForm form) (P.takes picture.old) (N.takes notes.old) scene → (result ≡ Status.Done) ⊎ (result ≡ Status.OutOfMemory) }
+    ensures taken { AreTaken (GivesByForm shown) (P.takes picture.old) (N.takes notes.old) scene → (result ≡ Status.Done) ⊎ (result ≡ Status.OutOfMemory) }
 {
-    match output_of(alloc, form, scene) {
-        Ok(output) => write(&output, picture, notes),
+    match output_of(alloc, shown, scene) {
+        Ok(output) => write_output(&output, picture, notes),
         Err(_) => Status::OutOfMemory,
     }
 }
 
-/// Reads a scene's text, runs the scene, and writes what the form asks for.
+/// Reads a scene's text, runs the scene, and writes what is shown of the run.
 fn obey<S: Source, P: Sink, N: Sink>(
     alloc: Global,
-    form: Form,
+    shown: Shown,
     input: &mut S,
     picture: &mut P,
     notes: &mut N,
 ) -> Status
     ensures says { (given : List ℕ) × Consumes (S.left input.old) (S.left input.new) given
-        × Says (GivesByForm form) result given (S.left input.new)
+        × Says (GivesByForm shown) result given (S.left input.new)
         (record { held = P.held picture.old; holds = P.held picture.new; before = P.faults picture.old; now = P.faults picture.new })
         (record { held = N.held notes.old; holds = N.held notes.new; before = N.faults notes.old; now = N.faults notes.new }) }
     ensures later { N.faults notes.old ≤ N.faults notes.new }
@@ -66,11 +68,11 @@ fn obey<S: Source, P: Sink, N: Sink>(
         → (result ≡ answer_to bytes) ⊎ (result ≡ Status.OutOfMemory) }
     ensures taken { (bytes : List ℕ) → S.left input.old ≡ Some bytes
         → (S.gives_all input.old ⊎ (Rose (S.faults input.old) (S.faults input.new) → ⊥))
-        → ((scene : Scene) → scene_of bytes ≡ Ok scene → AreTaken (GivesByForm form) (P.takes picture.old) (N.takes notes.old) scene)
+        → ((scene : Scene) → scene_of bytes ≡ Ok scene → AreTaken (GivesByForm shown) (P.takes picture.old) (N.takes notes.old) scene)
         → (result ≡ answer_to bytes) ⊎ (result ≡ Status.OutOfMemory) }
 {
     match read(alloc, input) {
-        Ok(scene) => run(alloc, form, scene, picture, notes),
+        Ok(scene) => run(alloc, shown, scene, picture, notes),
         Err(status) => status,
     }
 }
@@ -96,22 +98,24 @@ fn answer<S: Source, P: Sink, N: Sink>(
     ensures decided { (form : Form) (bytes : List ℕ) → form_of words.now ≡ Some form → S.left input.old ≡ Some bytes
         → (Rose (S.faults input.old) (S.faults input.new) → ⊥) → (Rose (P.faults picture.old) (P.faults picture.new) → ⊥)
         → (Rose (N.faults notes.old) (N.faults notes.new) → ⊥)
-        → (result ≡ answer_to bytes) ⊎ (result ≡ Status.OutOfMemory) }
+        → IsAnswerTo form bytes result ⊎ (result ≡ Status.OutOfMemory) }
     ensures taken { (form : Form) (bytes : List ℕ) → form_of words.now ≡ Some form → S.left input.old ≡ Some bytes
         → (S.gives_all input.old ⊎ (Rose (S.faults input.old) (S.faults input.new) → ⊥))
-        → ((scene : Scene) → scene_of bytes ≡ Ok scene → AreTaken (GivesByForm form) (P.takes picture.old) (N.takes notes.old) scene)
-        → (result ≡ answer_to bytes) ⊎ (result ≡ Status.OutOfMemory) }
+        → TakesAllOf form bytes (P.takes picture.old) (N.takes notes.old)
+        → IsAnswerTo form bytes result ⊎ (result ≡ Status.OutOfMemory) }
 {
     match form_of(words) {
-        Some(form) => obey(alloc, form, input, picture, notes),
+        Some(Form::Scheduled(shown)) => obey(alloc, shown, input, picture, notes),
+        Some(Form::Check) => obey_check(alloc, input, picture, notes),
         None => Status::Usage,
     }
 }
 
 /// Does what the words of the command line say. `turns` reads a scene from `input`, runs it, and writes its screen to
 /// `picture` in the P6 form and its journal to `notes`. `sarea` does the same and writes the image of the shared area to
-/// `picture` in place of the screen, and no journal. For every status but `Done` one line is written to `notes` last. It
-/// waits for nobody.
+/// `picture` in place of the screen, and no journal. `check` reads a scene and behind it a journal, asks whether the
+/// journal is a run of the scene, and writes the line of its report to `picture`, and nothing to `notes`. For every status
+/// but `Done` one line is written to `notes` last. It waits for nobody.
 pub fn drive<S: Source, P: Sink, N: Sink>(
     alloc: Global,
     words: &[String],
@@ -125,7 +129,8 @@ pub fn drive<S: Source, P: Sink, N: Sink>(
 
     // What was given, and what picture and notes gained. Where the answer is `Done`, the bytes given are the text of one
     // scene; with the run of its schedule and rounds, the picture gained what the screen or the shared area shows after
-    // it, and the notes its journal; and of that run the headline holds.
+    // it, and the notes its journal; and of that run the headline holds. For `check` the bytes given are the text of a
+    // scene and then of a hold-run of it, and the picture gained the line of the run's report.
     ensures answers { (given : List ℕ) × Consumes (S.left input.old) (S.left input.new) given
         × Answers (SaysTo (form_of words.now)) result given (S.left input.new)
         (record { held = P.held picture.old; holds = P.held picture.new; before = P.faults picture.old; now = P.faults picture.new })
@@ -139,13 +144,13 @@ pub fn drive<S: Source, P: Sink, N: Sink>(
     ensures decided { (form : Form) (bytes : List ℕ) → form_of words.now ≡ Some form → S.left input.old ≡ Some bytes
         → (Rose (S.faults input.old) (S.faults input.new) → ⊥) → (Rose (P.faults picture.old) (P.faults picture.new) → ⊥)
         → (Rose (N.faults notes.old) (N.faults notes.new) → ⊥)
-        → (result ≡ answer_to bytes) ⊎ (result ≡ Status.OutOfMemory) }
+        → IsAnswerTo form bytes result ⊎ (result ≡ Status.OutOfMemory) }
 
-    // The same holds where the sinks take, without a fault, whatever a run of the scene gives.
+    // The same holds where the sinks take, without a fault, whatever a run of the scene gives, or the report's line.
     ensures taken { (form : Form) (bytes : List ℕ) → form_of words.now ≡ Some form → S.left input.old ≡ Some bytes
         → (S.gives_all input.old ⊎ (Rose (S.faults input.old) (S.faults input.new) → ⊥))
-        → ((scene : Scene) → scene_of bytes ≡ Ok scene → AreTaken (GivesByForm form) (P.takes picture.old) (N.takes notes.old) scene)
-        → (result ≡ answer_to bytes) ⊎ (result ≡ Status.OutOfMemory) }
+        → TakesAllOf form bytes (P.takes picture.old) (N.takes notes.old)
+        → IsAnswerTo form bytes result ⊎ (result ≡ Status.OutOfMemory) }
 
     // Where the notes take the status's line without a fault, they gain it whole and nothing else.
     ensures told { (n : ℕ) → length (line_of result) ≤ n → N.takes notes.old n → result ≢ Status.Done → result ≢ Status.WriteFault

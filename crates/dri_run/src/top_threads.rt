@@ -14,7 +14,7 @@ ghost use Rattle.dri_base.specs.Ranges.{InRange};
 use crate::Status;
 use crate::reading::read;
 use crate::threaded::threaded_output_of;
-use crate::writing::{tell, write};
+use crate::writing::{tell, write_output};
 use dri_base::Scene;
 use dri_io::{Sink, Source};
 use dri_threads::Gate;
@@ -40,7 +40,7 @@ fn run<R: Threads + Wait + Sync, G: Gate + Sync, P: Sink, N: Sink>(
     ensures taken { AreTaken GivesInThreads (P.takes picture.old) (N.takes notes.old) scene → (result ≡ Status.Done) ⊎ (result ≡ Status.OutOfMemory) }
 {
     match threaded_output_of(rt, alloc, gate, scene) {
-        Ok(output) => write(&output, picture, notes),
+        Ok(output) => write_output(&output, picture, notes),
         Err(_) => Status::OutOfMemory,
     }
 }

@@ -16,8 +16,26 @@ pub struct Output {
     pub notes: Bytes,
 }
 
-/// Writes the picture whole, and then the notes.
-pub fn write<P: Sink, N: Sink>(output: &Output, picture: &mut P, notes: &mut N) -> Status
+/// Writes the picture's bytes whole, and then those of the notes.
+pub fn write<P: Sink, N: Sink>(image: &[u8], text: &[u8], picture: &mut P, notes: &mut N) -> Status
+    ensures written { Written result
+        (record { held = P.held picture.old; holds = P.held picture.new; before = P.faults picture.old; now = P.faults picture.new })
+        (record { held = N.held notes.old; holds = N.held notes.new; before = N.faults notes.old; now = N.faults notes.new })
+        image.now text.now }
+    ensures later { N.faults notes.old ≤ N.faults notes.new }
+    ensures taken { P.takes picture.old (length image.now) → N.takes notes.old (length text.now) → result ≡ Status.Done }
+{
+    if write_all(picture, image).is_err() {
+        return Status::WriteFault;
+    }
+    match write_all(notes, text) {
+        Ok(()) => Status::Done,
+        Err(_) => Status::WriteFault,
+    }
+}
+
+/// Writes what a run has to write.
+pub fn write_output<P: Sink, N: Sink>(output: &Output, picture: &mut P, notes: &mut N) -> Status
     ensures written { Written result
         (record { held = P.held picture.old; holds = P.held picture.new; before = P.faults picture.old; now = P.faults picture.new })
         (record { held = N.held notes.old; holds = N.held notes.new; before = N.faults notes.old; now = N.faults notes.new })
@@ -25,13 +43,12 @@ pub fn write<P: Sink, N: Sink>(output: &Output, picture: &mut P, notes: &mut N) 
     ensures later { N.faults notes.old ≤ N.faults notes.new }
     ensures taken { P.takes picture.old (length output.now.picture) → N.takes notes.old (length output.now.notes) → result ≡ Status.Done }
 {
-    if write_all(picture, output.picture.as_slice()).is_err() {
-        return Status::WriteFault;
-    }
-    match write_all(notes, output.notes.as_slice()) {
-        Ok(()) => Status::Done,
-        Err(_) => Status::WriteFault,
-    }
+    write(
+        output.picture.as_slice(),
+        output.notes.as_slice(),
+        picture,
+        notes,
+    )
 }
 
 /// Writes a status's line to the notes. A fault in writing it changes nothing.

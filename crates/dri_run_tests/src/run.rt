@@ -273,6 +273,146 @@ const FAULTS: [Case; 3] = [
     ),
 ];
 
+const CHECKED: &[&str] = &["check"];
+
+/// The first eight entries of the journal of two frames, and what stands behind the ninth.
+const FIRST_FRAME: &str =
+    "journal 1\nkernel 1 1\nstale 1\nleave 1\ninfo 1\nkernel 1 1\nrun 1 1\nrun 1 2\nleave 1\n";
+
+const SECOND_FRAME: &str = "run 1 3\nrun 1 4\nleave 1\ndone\n";
+
+/// Scenes with journals, and the reports of those that are runs; and the first entry that isn't legal of those that aren't.
+const JOURNALS: [Case; 9] = [
+    Case(
+        CHECKED,
+        &[(ROOT, 1), ("journal 1\ndone\n", 1)],
+        [0, 0, 0],
+        0,
+        b"entries 0 frames 0 stood 0 whole\n",
+        "",
+    ),
+    Case(
+        CHECKED,
+        &[(FRAMES, 1), ("done\n", 1), (FRAMES_JOURNAL, 1)],
+        [0, 0, 0],
+        0,
+        b"entries 12 frames 2 stood 2 whole\n",
+        "",
+    ),
+    Case(
+        CHECKED,
+        &[(FRAMES, 1), ("done\n", 1), (FIRST_FRAME, 1), ("done\n", 1)],
+        [0, 0, 0],
+        0,
+        b"entries 8 frames 1 stood 1 part\n",
+        "",
+    ),
+    Case(
+        CHECKED,
+        &[
+            (FRAMES, 1),
+            ("done\n", 1),
+            (FIRST_FRAME, 1),
+            ("kernel 1 2\n", 1),
+            (SECOND_FRAME, 1),
+        ],
+        [0, 0, 0],
+        6,
+        b"",
+        "dri: not a run: entry 9\n",
+    ),
+    Case(
+        CHECKED,
+        &[
+            (FRAMES, 1),
+            ("done\n", 1),
+            (FIRST_FRAME, 1),
+            ("light 1\nrun 1 3\nrun 1 4\n", 1),
+            ("run 1 4\nleave 1\ndone\n", 1),
+        ],
+        [0, 0, 0],
+        6,
+        b"",
+        "dri: not a run: entry 12\n",
+    ),
+    Case(
+        CHECKED,
+        &[(DIES, 1), (DIES_JOURNAL, 1)],
+        [0, 0, 0],
+        0,
+        b"entries 10 frames 1 stood 1 whole\n",
+        "",
+    ),
+    Case(
+        CHECKED,
+        &[(OVER, 1), (RAISED, 1), (OVER_JOURNAL, 1)],
+        [0, 0, 0],
+        0,
+        b"entries 17 frames 1 stood 0 whole\n",
+        "",
+    ),
+    Case(
+        CHECKED,
+        &[(BESIDE, 1), (RAISED, 1), (BESIDE_JOURNAL, 1)],
+        [0, 0, 0],
+        0,
+        b"entries 13 frames 1 stood 1 whole\n",
+        "",
+    ),
+    Case(
+        CHECKED,
+        &[(WAITING, 1), ("x1\nend\ndone\n", 1), (KILLED_JOURNAL, 1)],
+        [0, 0, 0],
+        0,
+        b"entries 17 frames 1 stood 1 whole\n",
+        "",
+    ),
+];
+
+/// Texts without a journal, and a report that isn't written whole.
+const NO_JOURNALS: [Case; 5] = [
+    Case(
+        CHECKED,
+        &[("dri 1\n\nscreen 0 1 000000\n", 1)],
+        [0, 0, 0],
+        2,
+        b"",
+        "dri: line 3: range\n",
+    ),
+    Case(
+        CHECKED,
+        &[(ROOT, 1)],
+        [0, 0, 0],
+        2,
+        b"",
+        "dri: line 5: ended\n",
+    ),
+    Case(
+        CHECKED,
+        &[(ROOT, 1), ("# the journal\njournal 1\nmark 1\ndone\n", 1)],
+        [0, 0, 0],
+        2,
+        b"",
+        "dri: line 7: shape\n",
+    ),
+    Case(
+        CHECKED,
+        &[(ROOT, 1), ("journal 1\ndone\n", 1)],
+        [1, 0, 0],
+        4,
+        b"",
+        "dri: read failed\n",
+    ),
+    Case(
+        CHECKED,
+        &[(ROOT, 1), ("journal 1\ndone\n", 1)],
+        [0, 3, 0],
+        5,
+        b"entries 0 frames",
+        "dri: write failed\n",
+    ),
+];
+
 /// A scene that is played, and its picture.
 struct Shown(Text, &'static [u8]);
 
@@ -386,6 +526,16 @@ fn refusals(rt: HostRuntime) -> Result<(), Fail> {
 #[test]
 fn faults(rt: HostRuntime) -> Result<(), Fail> {
     each_holds(&rt, rt.alloc(), &FAULTS)
+}
+
+#[test]
+fn journals(rt: HostRuntime) -> Result<(), Fail> {
+    each_holds(&rt, rt.alloc(), &JOURNALS)
+}
+
+#[test]
+fn texts_without_a_journal(rt: HostRuntime) -> Result<(), Fail> {
+    each_holds(&rt, rt.alloc(), &NO_JOURNALS)
 }
 
 /// Plays a scene, and compares the picture alone.

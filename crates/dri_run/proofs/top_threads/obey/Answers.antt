@@ -1,4 +1,5 @@
 -- The scene of the text ran.
+use Rattle.dri_run.specs.Outcome.{HasNoScene, IsTextOf}
 use Rattle.dri_run.specs.ThreadedRun.{GivesInThreads}
 use Rattle.dri_run.proofs.Sayings.{says_ran, taken_ran}
 use Rattle.dri_run.proofs.top_threads.obey.Goals as goal
@@ -6,7 +7,7 @@ use Rattle.dri_run.proofs.top_threads.obey.Goals as goal
 pub returns-in-Ok-clause-says : goal.returns-in-Ok-clause-says
 returns-in-Ok-clause-says g c =
     let read = c.in-Ok.ensures.reads in
-    (read.0, read.1, says_ran GivesInThreads c.run.result c.in-Ok.scene read.0 _ _ _ read.2 c.run.ensures.ran)
+    (read.0, read.1, says_ran IsTextOf HasNoScene GivesInThreads c.run.result c.in-Ok.scene read.0 _ _ _ tt read.2 c.run.ensures.ran)
 
 pub returns-in-Ok-clause-taken : goal.returns-in-Ok-clause-taken
 returns-in-Ok-clause-taken g c = λ bytes left sure taken.
