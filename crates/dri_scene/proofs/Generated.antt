@@ -183,7 +183,7 @@ changes_ranged n few = record {
 pub generator_in_range : (n : ℕ) → IsWithin 1 32 n → InRange (generator n)
 unfolding generator
 generator_in_range n few = record {
-  card = record { wide = omega arith; high = omega arith; regions = omega arith; sized = refl };
+  card = record { wide = omega arith; high = omega arith; regions = omega arith; sized = (12, (omega arith, omega arith), refl) };
   windowed = windows_ranged n few;
   scripted = clients_ranged n few;
   few = subst (λ m. m ≤ 100000) (sym (commands_counted 1 n)) (omega (arith, few));
