@@ -1,11 +1,11 @@
 -- The counts of a replay with one entry more, and what it does to the planes.
-use Rattle.std.proofs.Common.{◌≡◌, ◌≢◌, ◌<◌, ◌≤◌, ◌+◌, ◌∙◌, ℕ, zero, suc, List, [], ◌∷◌, ◌++◌, Bool, true, false, Option, Some, None, length, get_or, refl, sym, ap, subst, arith, inl, inr}
-use Rattle.std.specs.Prelude.{◌⊎◌, ◌==◌, if◌then◌else◌, not, slice_get}
+use Rattle.std.proofs.Common.{◌≡◌, ◌≢◌, ◌<◌, ◌≤◌, ◌+◌, ◌∙◌, ℕ, List, [], ◌∷◌, Bool, true, false, Option, Some, None, length, get_or, refl, sym, ap, subst, arith, inl, inr}
+use Rattle.std.specs.Prelude.{◌⊎◌, ◌==◌, if◌then◌else◌, slice_get}
 use Rattle.std.proofs.lemmas.Bool.{cases_eq, true≢false}
 use Rattle.std.proofs.lemmas.Bool.Decides.{nat_tests}
 use Rattle.std.proofs.lemmas.Option.{get_or_from_slice_get, slice_get-get_or, slice_get_within}
 use Rattle.dri_base.specs.Ranges.{InRange}
-use Rattle.dri_base.specs.Scenes.{command_at, script_of, window_of}
+use Rattle.dri_base.specs.Scenes.{command_at, script_of}
 use Rattle.dri_base.specs.declared.command.Command.{Command}
 use Rattle.dri_base.specs.declared.command.Command.TheVariants as Command_is
 use Rattle.dri_base.specs.declared.journal.Entry.{Entry}
@@ -14,12 +14,11 @@ use Rattle.dri_base.specs.declared.scene.ClientScript.{ClientScript}
 use Rattle.dri_base.specs.declared.scene.Scene.{Scene}
 use Rattle.dri_base.proofs.RangeLemmas.{number_of_script}
 use Rattle.dri_core.specs.EntryTable.{after_entry}
-use Rattle.dri_core.specs.Frames.{keeps}
 use Rattle.dri_core.specs.Runs.{client_of}
 use Rattle.dri_core.specs.Worlds.{World, opening}
 use Rattle.dri_journal.specs.Acts.{is_quiet, ran_by}
 use Rattle.dri_journal.specs.Deeds.{Does, deed_by}
-use Rattle.dri_journal.specs.Tallies.{AreCut, IsTallyOf, has_number, standing_in}
+use Rattle.dri_journal.specs.Tallies.{IsTallyOf, standing_in}
 use Rattle.dri_journal.specs.declared.tally.Standing.{Standing}
 use Rattle.dri_journal.specs.declared.tally.Standing.TheVariants as Standing_is
 use Rattle.dri_journal.specs.declared.tally.Tally.{Tally}

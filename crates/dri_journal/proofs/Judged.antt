@@ -1,13 +1,12 @@
 -- What is tested by what a replay keeps is what the table of entries tests.
-use Rattle.std.proofs.Common.{◌≡◌, ◌≢◌, ◌<◌, ◌≤◌, ◌+◌, ◌*◌, ◌∙◌, ℕ, List, Bool, true, false, Option, Some, None, length, refl, sym, ap, subst, arith}
+use Rattle.std.proofs.Common.{◌≡◌, ◌≤◌, ◌+◌, ◌*◌, ◌∙◌, ℕ, List, Bool, true, false, Option, Some, None, length, refl, sym, ap, arith}
 use Rattle.std.specs.Prelude.{◌==◌, ◌&&◌, ◌||◌, is_none, nat_le, not, pred, slice_get, Contains}
 use Rattle.std.proofs.lemmas.Bool.{eqb-true, false_from_ne_true, true≢false}
 use Rattle.std.proofs.lemmas.Bool.Decides.{nat_tests}
 use Rattle.std.proofs.Math.Nat.{mul-le-mul_right}
 use Rattle.dri_base.specs.Ranges.{InRange, TextureInRange, client_numbers, heap_bytes}
-use Rattle.dri_base.specs.Scenes.{bytes_of, command_at, kills_in, regions_for, regions_needed, script_of, textures_of}
+use Rattle.dri_base.specs.Scenes.{bytes_of, kills_in, regions_for, script_of, textures_of}
 use Rattle.dri_base.specs.Texels.{texture_in}
-use Rattle.dri_base.specs.declared.command.Command.{Command}
 use Rattle.dri_base.specs.declared.journal.Entry.{Entry}
 use Rattle.dri_base.specs.declared.journal.Entry.TheVariants as Entry_is
 use Rattle.dri_base.specs.declared.scene.ClientScript.{ClientScript}

@@ -1,7 +1,7 @@
 -- What a replay keeps stays faithful with one entry more.
-use Rattle.std.proofs.Common.{◌≡◌, ◌≢◌, ◌<◌, ◌≤◌, ◌+◌, ◌∙◌, ℕ, zero, suc, List, [], ◌∷◌, ◌++◌, Bool, true, false, Option, Some, None, length, get_or, refl, sym, ap, subst, arith, inl, inr}
+use Rattle.std.proofs.Common.{◌≡◌, ◌≢◌, ◌<◌, ◌∙◌, ℕ, zero, suc, List, [], ◌∷◌, ◌++◌, Bool, true, false, Some, length, get_or, refl, sym, ap, subst, arith, inl, inr}
 use Rattle.std.proofs.Math.ListN.{set, length-set}
-use Rattle.std.specs.Prelude.{◌⊎◌, ◌==◌, AllPairs, filter, nat_lt, not, pred, slice_get}
+use Rattle.std.specs.Prelude.{◌⊎◌, AllPairs, nat_lt, slice_get}
 use Rattle.std.specs.List.{All}
 use Rattle.std.specs.Option.{option_map}
 use Rattle.std.proofs.lemmas.Bool.{cases_eq, true≢false}
@@ -9,8 +9,7 @@ use Rattle.std.proofs.lemmas.Bool.Decides.{nat_tests}
 use Rattle.std.proofs.lemmas.List.{get_or-set_same, get_or-set_other}
 use Rattle.std.proofs.lemmas.Option.{get_or_from_slice_get, slice_get-get_or, slice_get-map, slice_get_within}
 use Rattle.dri_base.specs.Ranges.{InRange, client_numbers}
-use Rattle.dri_base.specs.Scenes.{command_at, commands_of, script_of}
-use Rattle.dri_base.specs.declared.command.Command.{Command}
+use Rattle.dri_base.specs.Scenes.{script_of}
 use Rattle.dri_base.specs.declared.journal.Entry.{Entry}
 use Rattle.dri_base.specs.declared.journal.Entry.TheVariants as Entry_is
 use Rattle.dri_base.specs.declared.scene.ClientScript.{ClientScript}
@@ -21,7 +20,7 @@ use Rattle.dri_client.specs.Parts.{Agrees, PartState}
 use Rattle.dri_clips.specs.Boards.{Screen}
 use Rattle.dri_clips.specs.SceneBoards.{IsBoardOf}
 use Rattle.dri_core.specs.EntryTable.{LegalEntry, after_entry}
-use Rattle.dri_core.specs.Runs.{HoldRun, after, after_entries, client_of}
+use Rattle.dri_core.specs.Runs.{after, after_entries, client_of}
 use Rattle.dri_core.specs.Worlds.{World, opening}
 use Rattle.dri_core.proofs.Laws.{HoldRun-push, after-push, foreign_entries}
 use Rattle.dri_journal.specs.Acts.{is_quiet}

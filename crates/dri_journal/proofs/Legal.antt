@@ -1,6 +1,6 @@
 -- What a legal entry of a client needs of its part and of the regions, and what it makes of the regions.
-use Rattle.std.proofs.Common.{◌≡◌, ◌≢◌, ◌<◌, ◌≤◌, ◌+◌, ◌-◌, ◌*◌, ◌/◌, ◌∙◌, ℕ, suc, List, [], ◌∷◌, Bool, true, false, Option, Some, None, length, refl, sym, ap, subst, arith, inl, inr}
-use Rattle.std.specs.Prelude.{◌⊎◌, ◌==◌, IfSome, IsSome, nat_le, pred, slice_get}
+use Rattle.std.proofs.Common.{◌≡◌, ◌<◌, ◌≤◌, ◌+◌, ◌-◌, ◌*◌, ◌∙◌, ℕ, List, Bool, true, Option, Some, None, length, refl, sym, ap, subst, arith, inl}
+use Rattle.std.specs.Prelude.{IfSome, IsSome, nat_le, pred, slice_get}
 use Rattle.std.proofs.lemmas.Bool.{and_parts, true≢false}
 use Rattle.std.proofs.lemmas.Bool.Decides.{nat_tests}
 use Rattle.std.proofs.Math.Nat.{le-div_iff_mul-le, le-mul_of_pos_right}
@@ -9,7 +9,6 @@ use Rattle.dri_base.specs.Ranges.{InRange, TextureInRange, heap_bytes}
 use Rattle.dri_base.specs.Scenes.{bytes_of, command_at, commands_of, regions_for, regions_needed, script_of, texel_bytes, textures_of}
 use Rattle.dri_base.specs.Texels.{texture_in}
 use Rattle.dri_base.specs.declared.command.Command.{Command}
-use Rattle.dri_base.specs.declared.command.Command.TheVariants as Command_is
 use Rattle.dri_base.specs.declared.journal.Entry.{Entry}
 use Rattle.dri_base.specs.declared.journal.Entry.TheVariants as Entry_is
 use Rattle.dri_base.specs.declared.scene.Scene.{Scene}
@@ -23,16 +22,15 @@ use Rattle.dri_base.proofs.RegionSizes.{region_size_above}
 use Rattle.dri_client.specs.Kept.{IsKept}
 use Rattle.dri_client.specs.Parts.{Agrees, PartState, next_command}
 use Rattle.dri_client.specs.Textures.{run_used}
-use Rattle.dri_core.specs.Effects.{heap_after, run_at}
+use Rattle.dri_core.specs.Effects.{heap_after}
 use Rattle.dri_core.specs.EntryTable.{LegalEntry, after_entry}
 use Rattle.dri_core.specs.Phases.{In}
 use Rattle.dri_core.specs.Privates.{Private, can_draw, can_run, run_of, texture_used, textured_with, used_run}
-use Rattle.dri_core.specs.Runs.{HoldRun, Intact, IsCurrent, after, client_of}
-use Rattle.dri_core.specs.Worlds.{World}
+use Rattle.dri_core.specs.Runs.{HoldRun, IsCurrent, after, client_of}
 use Rattle.dri_core.proofs.Bounds.{age_most_of_all}
 use Rattle.dri_core.proofs.RunLaws.{acting_current, intact}
 use Rattle.dri_journal.specs.Acts.{MayAct, UsesRegions, heap_by, is_quiet}
-use Rattle.dri_model.specs.Heaps.{Heap, Run, allocated, classes_for, fits, in_run, is_place_for}
+use Rattle.dri_model.specs.Heaps.{Heap, Run, classes_for, fits, is_place_for}
 use Rattle.dri_texheap.specs.Placements.{placed_of}
 use Rattle.dri_texheap.specs.RegionStates.{AreRegionsOf, IsInUse, IsInside, RegionState, heap_of}
 

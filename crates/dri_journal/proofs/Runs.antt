@@ -4,7 +4,7 @@ use Rattle.std.specs.Prelude.{◌==◌, ◌&&◌}
 use Rattle.std.proofs.lemmas.Bool.{and_parts, eqb-true}
 use Rattle.std.proofs.lemmas.Bool.Decides.{nat_tests}
 use Rattle.dri_core.specs.Effects.{run_at}
-use Rattle.dri_model.specs.Heaps.{Heap, Run, allocated, classes_for, fits, is_place_for, lowest_place}
+use Rattle.dri_model.specs.Heaps.{Heap, Run, allocated, classes_for, is_place_for, lowest_place}
 
 place_lowest : (n : ℕ) (h : Heap) (count first : ℕ) → is_place_for n h count first ≡ true → first ≡ lowest_place n h count (classes_for n h count)
 place_lowest n h count first e = eqb-true first (lowest_place n h count (classes_for n h count)) (and_parts _ _ e).0

@@ -1,5 +1,5 @@
 -- A change that the board refuses touches nothing.
-use Rattle.std.proofs.Common.{◌≡◌, ◌≢◌, ◌↔◌, ℕ, zero, suc, List, Bool, false, Option, Some, None, refl, arith, Result, Ok, Err}
+use Rattle.std.proofs.Common.{◌≡◌, ◌≢◌, ◌↔◌, ℕ, zero, suc, List, Bool, false, Option, Some, refl, arith, Result, Err}
 use Rattle.dri_base.specs.declared.scene.Window.{Window}
 use Rattle.dri_clips.specs.Boards.{IsRestacked, Screen, stamps_of}
 use Rattle.dri_clips.specs.declared.change.ChangeFault.{ChangeFault}

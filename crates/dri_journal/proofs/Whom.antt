@@ -1,5 +1,5 @@
 -- Whose entry it is: its client has a script, a number, a window on the stack and a place in the list of parts.
-use Rattle.std.proofs.Common.{◌≡◌, ◌≢◌, ◌<◌, ◌≤◌, ◌+◌, ◌∙◌, ℕ, zero, suc, List, [], ◌∷◌, Bool, true, false, Option, Some, None, length, get_or, refl, sym, ap, subst, arith, inl, inr, Contains}
+use Rattle.std.proofs.Common.{◌≡◌, ◌≢◌, ◌≤◌, ◌∙◌, ℕ, suc, List, [], ◌∷◌, Bool, true, false, Option, Some, None, refl, sym, ap, subst, arith, inl, inr, Contains}
 use Rattle.std.specs.Prelude.{◌⊎◌, ◌==◌, ◌↔◌, IfSome, IsSome, slice_get}
 use Rattle.std.proofs.lemmas.Bool.{true≢false}
 use Rattle.std.proofs.lemmas.Bool.Decides.{eqb_tells}
@@ -14,7 +14,6 @@ use Rattle.dri_base.proofs.RangeLemmas.{number_of_script, owns_window, well_form
 use Rattle.dri_core.specs.EntryTable.{LegalEntry}
 use Rattle.dri_core.specs.Phases.{Ask, Asking, Ended, In, Old, Out, Over, Phase, is_done}
 use Rattle.dri_core.specs.Runs.{HoldRun, after, client_of}
-use Rattle.dri_core.specs.Worlds.{World}
 use Rattle.dri_journal.specs.Acts.{is_quiet}
 use Rattle.dri_core.proofs.Lively.{Lively, lively_after, not_empty}
 use Rattle.dri_core.proofs.Windows.{has_after, has_contains, has_owned}

@@ -1,6 +1,3 @@
-use Rattle.std.proofs.Common.{sym, ◌∙◌, subst}
-use Rattle.dri_base.specs.declared.journal.Entry.TheVariants.{Run}
-use Rattle.dri_client.specs.Parts.{Agrees, part_after}
 use Rattle.dri_journal.proofs.acting.act.Goals as goal
 
 pub returns-in-Kernel-clause-part : goal.returns-in-Kernel-clause-part

@@ -1,5 +1,3 @@
-use Rattle.std.proofs.Common.{sym, subst, arith, ap, ◌∙◌, ℕ, ◌≡◌, true}
-use Rattle.dri_core.specs.Effects.{run_at}
 use Rattle.dri_journal.proofs.Runs.{allocates}
 use Rattle.dri_journal.proofs.acting.use_regions.Goals as goal
 use Rattle.dri_texheap.specs.RegionStates.{heap_of}

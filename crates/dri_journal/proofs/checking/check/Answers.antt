@@ -1,4 +1,4 @@
-use Rattle.std.proofs.Common.{◌≡◌, ◌≤◌, ◌+◌, ℕ, length, sym, subst, arith}
+use Rattle.std.proofs.Common.{◌≡◌, ◌≤◌, ◌+◌, length, subst, arith}
 use Rattle.dri_core.proofs.FirstBad.{bad_is_no_run}
 use Rattle.dri_core.specs.FirstBad.{IsFirstBad}
 use Rattle.dri_journal.proofs.Reported.{first_refused, reported}

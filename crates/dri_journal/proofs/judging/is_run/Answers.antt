@@ -1,5 +1,3 @@
-use Rattle.std.proofs.Common.{sym, ap, ◌∙◌}
-use Rattle.dri_model.specs.Heaps.{Run}
 use Rattle.dri_journal.proofs.Runs.{run_is}
 use Rattle.dri_texheap.specs.RegionStates.{heap_of}
 use Rattle.dri_journal.proofs.judging.is_run.Goals as goal

@@ -1,15 +1,15 @@
-use Rattle.std.proofs.Common.{◌≡◌, ◌∙◌, ◌+◌, ◌≤◌, ◌<◌, ◌==◌, not, ℕ, Some, true, refl, inl, sym, ap, subst, arith, length, ◌++◌, [], ◌∷◌}
-use Rattle.std.specs.Prelude.{slice_get, Contains, List}
-use Rattle.std.proofs.lemmas.Option.{slice_get-get_or, slice_get_within}
+use Rattle.std.proofs.Common.{◌≡◌, ◌∙◌, ◌+◌, ◌≤◌, ◌==◌, not, refl, inl, sym, ap, subst, arith, ◌++◌, [], ◌∷◌}
+use Rattle.std.specs.Prelude.{Contains, List}
+use Rattle.std.proofs.lemmas.Option.{slice_get_within}
 use Rattle.dri_base.specs.Ranges.{window_numbers}
-use Rattle.dri_base.specs.Scenes.{commands_of, script_of, window_of}
+use Rattle.dri_base.specs.Scenes.{script_of, window_of}
 use Rattle.dri_base.specs.declared.scene.ClientScript.{ClientScript}
 use Rattle.dri_base.specs.declared.scene.Window.{Window}
 use Rattle.dri_client.specs.Kept.{IsKept, IsScript}
-use Rattle.dri_client.specs.Parts.{Agrees, next_command}
+use Rattle.dri_client.specs.Parts.{next_command}
 use Rattle.dri_client.specs.Textures.{run_used}
 use Rattle.dri_client.proofs.Owned.{script_in_range}
-use Rattle.dri_core.specs.EntryTable.{LegalEntry, after_entry}
+use Rattle.dri_core.specs.EntryTable.{LegalEntry}
 use Rattle.dri_core.specs.Runs.{after, client_of}
 use Rattle.dri_journal.proofs.Counting.{counted, does, few_frames}
 use Rattle.dri_journal.proofs.Legal.{Runs, may_act, ran_command, used, uses}

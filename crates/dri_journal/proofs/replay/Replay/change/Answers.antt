@@ -1,4 +1,4 @@
-use Rattle.std.proofs.Common.{◌≡◌, ◌∙◌, ◌+◌, ◌≤◌, ◌++◌, [], ◌∷◌, Some, sym, ap, refl, subst, arith, length, List}
+use Rattle.std.proofs.Common.{◌≡◌, ◌∙◌, ◌++◌, [], ◌∷◌, Some, sym, ap, refl, subst, arith, length, List}
 use Rattle.std.specs.Prelude.{slice_get}
 use Rattle.dri_base.specs.declared.journal.Entry.TheVariants.{Change}
 use Rattle.dri_base.specs.declared.scene.ClientScript.{ClientScript}
@@ -11,7 +11,7 @@ use Rattle.dri_core.proofs.Kept.{after_kept}
 use Rattle.dri_model.specs.Stacks.{stack_after}
 use Rattle.dri_journal.proofs.Keeping.{faithful, parts_stay}
 use Rattle.dri_journal.proofs.Restacked.{board_after, cut_counts, tells, told_after, untold_after, windows_told}
-use Rattle.dri_journal.specs.Deeds.{TellsStack, windows_in}
+use Rattle.dri_journal.specs.Deeds.{TellsStack}
 use Rattle.dri_journal.specs.Replays.{MayTake, world_of}
 use Rattle.dri_journal.specs.Tallies.{has_number}
 use Rattle.dri_meaning.specs.Reports.{tally}

@@ -1,20 +1,19 @@
-use Rattle.std.proofs.Common.{◌≡◌, ◌∙◌, ◌+◌, ◌≤◌, ◌++◌, [], ◌∷◌, Some, sym, ap, refl, subst, arith, length, List}
+use Rattle.std.proofs.Common.{◌∙◌, ◌++◌, [], ◌∷◌, Some, sym, ap, refl, subst, arith, length, List}
 use Rattle.std.proofs.Math.ListN.{set}
 use Rattle.std.proofs.lemmas.Option.{slice_get_within}
 use Rattle.dri_base.specs.Scenes.{script_of}
 use Rattle.dri_base.specs.declared.journal.Entry.TheVariants.{Gone}
 use Rattle.dri_base.specs.declared.scene.ClientScript.{ClientScript}
 use Rattle.dri_base.proofs.RangeLemmas.{well_formed}
-use Rattle.dri_core.specs.EntryTable.{LegalEntry, after_entry}
+use Rattle.dri_core.specs.EntryTable.{LegalEntry}
 use Rattle.dri_core.specs.Runs.{after}
 use Rattle.dri_core.proofs.Bounds.{made_bounded, stamp_most}
 use Rattle.dri_core.proofs.Kept.{after_kept}
 use Rattle.dri_model.specs.Stacks.{without_owner}
 use Rattle.dri_journal.proofs.Keeping.{faithful, part_found, parts_step}
-use Rattle.dri_journal.proofs.Restacked.{board_after, cut_counts, tells, touched_after, windows_told}
+use Rattle.dri_journal.proofs.Restacked.{board_after, cut_counts, touched_after, windows_told}
 use Rattle.dri_journal.proofs.Whom.{found, has_number, is_there, small_number, some_commands}
-use Rattle.dri_journal.specs.Deeds.{TellsStack, windows_in}
-use Rattle.dri_journal.specs.Replays.{MayTake, world_of}
+use Rattle.dri_journal.specs.Replays.{MayTake}
 use Rattle.dri_journal.specs.Tallies as Tallies
 use Rattle.dri_meaning.specs.Reports.{tally}
 use Rattle.dri_journal.proofs.replay.Replay.gone.Goals as goal

@@ -1,5 +1,5 @@
-use Rattle.std.proofs.Common.{◌≡◌, ◌∙◌, sym, ap, List}
-use Rattle.std.specs.Prelude.{◌==◌, ◌&&◌, is_none, length}
+use Rattle.std.proofs.Common.{◌∙◌, ap, List}
+use Rattle.std.specs.Prelude.{◌==◌, ◌&&◌, is_none}
 use Rattle.std.specs.List.{list_all}
 use Rattle.dri_client.specs.Parts.{PartState}
 use Rattle.dri_core.specs.Phases.{is_done}

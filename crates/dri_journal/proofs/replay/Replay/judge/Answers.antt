@@ -1,8 +1,6 @@
-use Rattle.std.proofs.Common.{◌≡◌, ◌∙◌, Some, None, sym, ap, refl, subst, arith, Contains, List}
-use Rattle.std.specs.Prelude.{IsSome}
+use Rattle.std.proofs.Common.{sym, arith, Contains}
 use Rattle.dri_base.specs.Ranges.{client_numbers}
-use Rattle.dri_base.specs.declared.scene.ClientScript.{ClientScript}
-use Rattle.dri_core.specs.Runs.{after, client_of}
+use Rattle.dri_core.specs.Runs.{client_of}
 use Rattle.dri_core.proofs.Bounds.{made_bounded}
 use Rattle.dri_journal.proofs.Judged.{no_client}
 use Rattle.dri_journal.proofs.Whom.{change_or_clients, is_there, no_some}

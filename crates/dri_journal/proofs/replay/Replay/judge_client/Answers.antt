@@ -1,4 +1,4 @@
-use Rattle.std.proofs.Common.{◌≡◌, ◌∙◌, ◌≤◌, ◌<◌, Some, true, sym, ap, refl, subst, arith, length}
+use Rattle.std.proofs.Common.{◌≡◌, ◌∙◌, ◌≤◌, ◌<◌, Some, sym, subst, arith, length}
 use Rattle.std.specs.Prelude.{slice_get, ◌&&◌, ◌||◌, not, is_none}
 use Rattle.dri_client.specs.Parts.{next_command}
 use Rattle.dri_core.specs.Decide.{is_die}
