@@ -94,7 +94,8 @@ impl Board {
     }
 
     /// Makes a change, and tells what it touched. The windows touched get new stamps, by rising number. A change that is
-    /// refused, or for which memory is wanting, leaves the board as it was. The stamp counter is at most 4,294,967,231.
+    /// refused, or for which memory is wanting, leaves the board as it was. The stamp counter is at most 4,294,967,231. It
+    /// makes at most 8 T + 16 region computations, where T counts the windows that it reaches; a refused change makes none.
     pub fn apply<L: Ledger>(
         &mut self,
         alloc: Global,

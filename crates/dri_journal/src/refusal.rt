@@ -2,7 +2,7 @@
 
 use dri_base::OutOfMemory;
 
-/// Why an entry isn't legal after those that were taken: the first of its conditions that isn't met.
+/// Why an entry isn't legal after those that were taken: one of its conditions that isn't met. No contract says which one.
 #[derive(Clone, Copy, Debug, PartialEq, Eq)]
 pub enum Refusal {
     /// The scene has no such client.

@@ -110,7 +110,7 @@ impl<'a> Replay<'a> {
         are_both(is_unheld, rest)
     }
 
-    /// Whether an entry is legal after those that were taken, and the first reason why it isn't.
+    /// Whether an entry is legal after those that were taken, and a reason where it isn't; which one isn't promised.
     pub fn judge(&self, entry: &Entry) -> Result<(), Refusal>
         ensures { allows result ≡ is_legal_entry self.now.scene (world_of self.now) entry.now }
     {
@@ -161,7 +161,7 @@ impl<'a> Replay<'a> {
     }
 
     /// Takes an entry that is legal after those that were taken, and tells what it does to the planes. Another is refused,
-    /// with the first reason; then, and where memory is wanting, nothing is changed.
+    /// with a reason; then, and where memory is wanting, nothing is changed.
     pub fn step(&mut self, alloc: Global, entry: &Entry) -> Result<Deed, StepFault>
         ensures { Steps self.old self.new entry.now result }
     {
