@@ -67,10 +67,9 @@ fn apply<L: Ledger>(
     change: &Change,
     steps: &mut Steps<L>,
 ) -> Result<Touched, ChangeFault>
-    requires counter { board.old.counter ≤ 1000 }
-    requires both { HasBoth board.old }
+    requires { board.old.counter ≤ 1000 }
     ensures counter { board.new.counter ≤ board.old.counter + 64 }
-    ensures both { HasBoth board.new }
+    ensures both { HasBoth board.old → HasBoth board.new }
 {
     board.arranged();
     board.apply(alloc, change, steps)
@@ -83,10 +82,11 @@ fn bury<L: Ledger>(
     owner: u32,
     steps: &mut Steps<L>,
 ) -> Result<Touched, OutOfMemory>
-    requires counter { board.old.counter ≤ 1000 }
-    requires both { HasBoth board.old }
-    ensures { HasBoth board.new }
+    requires { board.old.counter ≤ 1000 }
+    ensures counter { board.new.counter ≤ board.old.counter + 64 }
+    ensures both { HasBoth board.old → HasBoth board.new }
 {
+    board.arranged();
     board.unmap_owner(alloc, owner, steps)
 }
 
@@ -197,6 +197,199 @@ fn refuse_each<L: Ledger, R: Abort>(rt: &R, alloc: Global, blank: Blank) -> Resu
     let second = apply(alloc, &mut board, &Change::Unmap { window: 1 }, &mut steps);
     assert!(rt; matches!(second, Err(ChangeFault::NotMapped)));
     Ok(())
+}
+
+/// A square window whose colour tells its number.
+fn square(number: u32, owner: u32, x: i32, y: i32, side: u32) -> Window {
+    Window {
+        number,
+        x,
+        y,
+        width: side,
+        height: side,
+        background: grey(number as u8),
+        owner,
+        mapped: true,
+    }
+}
+
+/// On a screen of 4 by 4 window 1 hangs off it over window 2, window 3 has the rectangle of window 2 below it, and
+/// window 4 has one pixel.
+fn four_windows(alloc: Global) -> Result<Board, OutOfMemory>
+    ensures { IfOk result (λ board. board.counter ≡ 1) }
+{
+    let mut windows = Sequence::new(alloc);
+    windows.push(square(1, 1, -1, -1, 3))?;
+    windows.push(square(2, 2, 1, 1, 2))?;
+    windows.push(square(3, 2, 1, 1, 2))?;
+    windows.push(square(4, 1, 3, 3, 1))?;
+    let scene = Scene {
+        width: 4,
+        height: 4,
+        root: grey(0),
+        regions: 1,
+        region_size: 256,
+        windows,
+        clients: Sequence::new(alloc),
+        changes: Sequence::new(alloc),
+        turns: Sequence::new(alloc),
+    };
+    if !scene.in_range() {
+        return Err(OutOfMemory);
+    }
+    Board::new(alloc, &scene)
+}
+
+/// A paint in the colour that tells a window's number, or in the root's.
+fn painted(number: u8, x1: u16, y1: u16, x2: u16, y2: u16) -> Paint {
+    Paint {
+        rect: ClipRect { x1, y1, x2, y2 },
+        colour: grey(number),
+    }
+}
+
+/// Whether a change touches just these windows and paints just these rectangles.
+fn touches<L: Ledger>(
+    alloc: Global,
+    board: &mut Board,
+    change: &Change,
+    windows: &[u32],
+    paints: &[Paint],
+    steps: &mut Steps<L>,
+) -> Result<bool, ChangeFault>
+    requires { board.old.counter ≤ 1000 }
+    ensures { board.new.counter ≤ board.old.counter + 64 }
+{
+    let touched = apply(alloc, board, change, steps)?;
+    Ok(touched.windows.as_slice() == windows && touched.paints.as_slice() == paints)
+}
+
+fn change_each<L: Ledger, R: Abort>(rt: &R, alloc: Global, blank: Blank) -> Result<(), Fail>
+    requires name { blank.name ≡ L.name }
+    requires parts { blank.parts ≡ L.parts }
+    requires one { L.parts ≡ 1 }
+{
+    let mut steps = Steps::<L>::new(blank);
+    let mut board = four_windows(alloc)?;
+    let raise = Change::Raise { window: 3 };
+    let over = [painted(3, 1, 1, 3, 3)];
+    assert!(rt;
+        touches(
+            alloc,
+            &mut board,
+            &raise,
+            [1, 2, 3].as_slice(),
+            over.as_slice(),
+            &mut steps
+        )?
+    );
+    let away = Change::Move {
+        window: 1,
+        x: 2,
+        y: 2,
+    };
+    let moved = [
+        painted(0, 0, 0, 2, 1),
+        painted(0, 0, 1, 1, 2),
+        painted(1, 3, 2, 4, 3),
+        painted(1, 2, 3, 4, 4),
+    ];
+    assert!(rt;
+        touches(
+            alloc,
+            &mut board,
+            &away,
+            [1, 4].as_slice(),
+            moved.as_slice(),
+            &mut steps
+        )?
+    );
+    let small = Change::Resize {
+        window: 1,
+        width: 1,
+        height: 1,
+    };
+    let shrunk = [
+        painted(0, 3, 2, 4, 3),
+        painted(0, 2, 3, 3, 4),
+        painted(4, 3, 3, 4, 4),
+    ];
+    assert!(rt;
+        touches(
+            alloc,
+            &mut board,
+            &small,
+            [1, 4].as_slice(),
+            shrunk.as_slice(),
+            &mut steps
+        )?
+    );
+    let lower = Change::Lower { window: 3 };
+    let bared = [
+        painted(1, 2, 2, 3, 3),
+        painted(2, 1, 1, 3, 2),
+        painted(2, 1, 2, 2, 3),
+    ];
+    assert!(rt;
+        touches(
+            alloc,
+            &mut board,
+            &lower,
+            [1, 2, 3].as_slice(),
+            bared.as_slice(),
+            &mut steps
+        )?
+    );
+    let unmap = Change::Unmap { window: 2 };
+    let below = [painted(3, 1, 1, 3, 2), painted(3, 1, 2, 2, 3)];
+    assert!(rt;
+        touches(
+            alloc,
+            &mut board,
+            &unmap,
+            [2, 3].as_slice(),
+            below.as_slice(),
+            &mut steps
+        )?
+    );
+    let map = Change::Map { window: 2 };
+    let again = [painted(2, 1, 1, 3, 2), painted(2, 1, 2, 2, 3)];
+    assert!(rt;
+        touches(
+            alloc,
+            &mut board,
+            &map,
+            [2, 3].as_slice(),
+            again.as_slice(),
+            &mut steps
+        )?
+    );
+    let died = bury(alloc, &mut board, 2, &mut steps)?;
+    let root = [painted(0, 1, 1, 3, 2), painted(0, 1, 2, 2, 3)];
+    assert!(rt;
+        died.windows.as_slice() == [2].as_slice() && died.paints.as_slice() == root.as_slice()
+    );
+    let unseen = Change::Move {
+        window: 2,
+        x: 0,
+        y: 0,
+    };
+    assert!(rt;
+        touches(
+            alloc,
+            &mut board,
+            &unseen,
+            [2].as_slice(),
+            [].as_slice(),
+            &mut steps
+        )?
+    );
+    Ok(())
+}
+
+#[test]
+fn changes(rt: HostRuntime) -> Result<(), Fail> {
+    change_each::<Brand, _>(&rt, rt.alloc(), Blank::new(1))
 }
 
 #[test]
