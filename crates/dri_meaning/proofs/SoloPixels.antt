@@ -55,6 +55,10 @@ state_after_on cs first n k command old new positive place here is_state then =
     let at : slice_get cs (pred (first + n)) ≡ Some command = rw same here in
     rw e (rw (state_on cs (first + n) (omega (arith, positive)), at, ← is_state) then)
 
+-- the whole frame
+pub solo_whole : (p : ClientScript) (first last : ℕ) (x y : ℤ) → first < last → solo_before p first (last - first) x y ≡ solo p first (last - suc first) x y
+solo_whole p first last x y order = let e : last - first ≡ suc (last - suc first) = omega (arith, order) in rw e refl
+
 -- what a plane's pixels become
 pub mapped_plane : {A B : Type 0} (g : A → B) (width height : ℕ) (f : ℕ → ℕ → A) → map g (plane width height f) ≡ plane width height (λ x y. g (f x y))
 unfolding first_pixels

@@ -30,7 +30,7 @@ fn row_of(pixels: &[Rgb]) -> Row
 }
 
 /// Writes the P6 bytes of a plane, in order. At an `Err`, which comes only where the sink's count of faults rose in this
-/// call, a front of them was taken. It is `Ok` for a sink that takes so many bytes without a fault. It takes no memory.
+/// call, a prefix of them was taken. It is `Ok` for a sink that takes so many bytes without a fault. It takes no memory.
 pub fn write_ppm<N: Sink>(plane: &Plane<Rgb>, sink: &mut N) -> Result<(), WriteFault>
     ensures ok { OnOk result (Appends (N.held sink.old) (N.held sink.new) (ppm plane.now.width plane.now.height plane.now.pixels)) }
     ensures front { OnErr result ((taken : ℕ) × (taken ≤ length (ppm plane.now.width plane.now.height plane.now.pixels))

@@ -2,6 +2,7 @@ use Rattle.std.proofs.Common.{◌≡◌, ◌∙◌, ◌+◌, ◌++◌, [], ◌�
 use Rattle.std.specs.Prelude.{List, slice_get}
 use Rattle.std.specs.Arc.{arc_value}
 use Rattle.std.proofs.lemmas.List.{length_push}
+use Rattle.std.proofs.lemmas.Option.{get_or_from_slice_get, slice_get_within}
 use Rattle.dri_base.specs.Ranges.{client_numbers}
 use Rattle.dri_base.specs.Scenes.{commands_of}
 use Rattle.dri_base.specs.declared.scene.Scene.{Scene}
@@ -10,6 +11,14 @@ use Rattle.dri_core.specs.Privates.{opening_part}
 use Rattle.dri_driver.specs.Opening.{IsOpening}
 use Rattle.dri_driver.proofs.Openings.{number_at, opening_more}
 use Rattle.dri_driver.proofs.opening.clients_of.Goals as goal
+
+pub new-requires-clause-there : goal.new-requires-clause-there
+new-requires-clause-there c =
+    let s = arc_value c.in_ok-clone.field-0 in
+    let n = c.get.result.now.number in
+    let at : slice_get (client_numbers s.clients) c.loop-i.i ≡ Some n =
+    subst (λ (t : Scene). slice_get (client_numbers t.clients) c.loop-i.i ≡ Some n) (c.deref-in-loop-i.ensures ∙ sym c.in_ok-clone.ensures.cases) (number_at c.deref-in-loop-i.result.now.clients c.loop-i.i c.get.result.now c.get.ensures) in
+    (c.loop-i.i, slice_get_within (client_numbers s.clients) c.loop-i.i n at, get_or_from_slice_get (client_numbers s.clients) c.loop-i.i n n at)
 
 pub loop-i-preserved : goal.loop-i-preserved
 loop-i-preserved c =

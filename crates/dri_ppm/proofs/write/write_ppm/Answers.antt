@@ -18,7 +18,7 @@ returns-in_err-write_all-clause-front g c =
     let bytes = c.as_bytes.result.now in
     let same : bytes ≡ header plane.width plane.height = search rules in
     let split : ppm plane.width plane.height plane.pixels ≡ ([] ++ bytes) ++ flat_map channels plane.pixels = ap (λ xs. xs ++ flat_map channels plane.pixels) (sym same) in
-    on_err c.from_residual.result (front_taken held held _ [] bytes (flat_map channels plane.pixels) _ split (Appends-nil held) c.in_err-write_all.ensures.front)
+    on_err c.from_residual.result (front_taken held held _ [] bytes (flat_map channels plane.pixels) _ split (Appends-nil held) c.in_err-write_all.ensures.prefix)
 
 pub returns-in_err-write_all-2-clause-front : goal.returns-in_err-write_all-2-clause-front
 returns-in_err-write_all-2-clause-front g c =
@@ -28,7 +28,7 @@ returns-in_err-write_all-2-clause-front g c =
     let b = (c.loop-y.y + 1) * columns in
     let row = c.as_slice.result.now in
     let split = rows_split channels first row pixels _ (c.loop-y.y * columns) b c.pixels-pixels.ensures.value (row_end c.loop-y.y columns) (c.as_slice.ensures.value ∙ c.row_of-row.ensures) in
-    on_err c.from_residual-in_err-write_all-2.result (front_taken _ _ _ _ row (flat_map channels (drop b pixels)) _ split c.loop-y.invariant.held c.in_err-write_all-2.ensures.front)
+    on_err c.from_residual-in_err-write_all-2.result (front_taken _ _ _ _ row (flat_map channels (drop b pixels)) _ split c.loop-y.invariant.held c.in_err-write_all-2.ensures.prefix)
 
 pub returns-in_err-write_all-2-clause-room : goal.returns-in_err-write_all-2-clause-room
 returns-in_err-write_all-2-clause-room g c = λ n enough takes.
