@@ -200,14 +200,14 @@ fn refuse_each<L: Ledger, R: Abort>(rt: &R, alloc: Global, blank: Blank) -> Resu
 }
 
 /// A square window whose colour tells its number.
-fn square(number: u32, owner: u32, x: i32, y: i32, side: u32) -> Window {
+fn square(number: u8, owner: u32, x: i32, y: i32, side: u32) -> Window {
     Window {
-        number,
+        number: u32::from(number),
         x,
         y,
         width: side,
         height: side,
-        background: grey(number as u8),
+        background: grey(number),
         owner,
         mapped: true,
     }
@@ -240,28 +240,113 @@ fn four_windows(alloc: Global) -> Result<Board, OutOfMemory>
     Board::new(alloc, &scene)
 }
 
-/// A paint in the colour that tells a window's number, or in the root's.
-fn painted(number: u8, x1: u16, y1: u16, x2: u16, y2: u16) -> Paint {
-    Paint {
-        rect: ClipRect { x1, y1, x2, y2 },
-        colour: grey(number),
+/// A change, the windows that it touches, and its paints: a colour's number and the rectangle's x1, y1, x2 and y2.
+#[derive(Clone, Copy)]
+struct Row(Change, &'static [u32], &'static [(u8, [u16; 4])]);
+
+const CHANGES: [Row; 9] = [
+    Row(
+        Change::Raise { window: 3 },
+        &[1, 2, 3],
+        &[(3, [1, 1, 3, 3])],
+    ),
+    Row(
+        Change::Move {
+            window: 1,
+            x: 2,
+            y: 2,
+        },
+        &[1, 4],
+        &[
+            (0, [0, 0, 2, 1]),
+            (0, [0, 1, 1, 2]),
+            (1, [3, 2, 4, 3]),
+            (1, [2, 3, 4, 4]),
+        ],
+    ),
+    Row(
+        Change::Resize {
+            window: 1,
+            width: 1,
+            height: 1,
+        },
+        &[1, 4],
+        &[(0, [3, 2, 4, 3]), (0, [2, 3, 3, 4]), (4, [3, 3, 4, 4])],
+    ),
+    Row(
+        Change::Lower { window: 3 },
+        &[1, 2, 3],
+        &[(1, [2, 2, 3, 3]), (2, [1, 1, 3, 2]), (2, [1, 2, 2, 3])],
+    ),
+    Row(
+        Change::Unmap { window: 2 },
+        &[2, 3],
+        &[(3, [1, 1, 3, 2]), (3, [1, 2, 2, 3])],
+    ),
+    Row(
+        Change::Move {
+            window: 2,
+            x: 0,
+            y: 0,
+        },
+        &[2],
+        &[],
+    ),
+    Row(
+        Change::Move {
+            window: 2,
+            x: 1,
+            y: 1,
+        },
+        &[2],
+        &[],
+    ),
+    Row(
+        Change::Map { window: 2 },
+        &[2, 3],
+        &[(2, [1, 1, 3, 2]), (2, [1, 2, 2, 3])],
+    ),
+    Row(
+        Change::Move {
+            window: 3,
+            x: 1,
+            y: 1,
+        },
+        &[],
+        &[],
+    ),
+];
+
+/// Whether the paints are these.
+fn are_paints(paints: &[Paint], wanted: &[(u8, [u16; 4])]) -> bool {
+    if paints.len() != wanted.len() {
+        return false;
     }
+    for i in 0..wanted.len() {
+        let (number, [x1, y1, x2, y2]) = wanted[i];
+        let paint = Paint {
+            rect: ClipRect { x1, y1, x2, y2 },
+            colour: grey(number),
+        };
+        if paints[i] != paint {
+            return false;
+        }
+    }
+    true
 }
 
-/// Whether a change touches just these windows and paints just these rectangles.
-fn touches<L: Ledger>(
+/// Whether a row's change touches and paints what the row says.
+fn is_as_told<L: Ledger>(
     alloc: Global,
     board: &mut Board,
-    change: &Change,
-    windows: &[u32],
-    paints: &[Paint],
+    row: &Row,
     steps: &mut Steps<L>,
 ) -> Result<bool, ChangeFault>
     requires { board.old.counter ≤ 1000 }
     ensures { board.new.counter ≤ board.old.counter + 64 }
 {
-    let touched = apply(alloc, board, change, steps)?;
-    Ok(touched.windows.as_slice() == windows && touched.paints.as_slice() == paints)
+    let touched = apply(alloc, board, &row.0, steps)?;
+    Ok(touched.windows.as_slice() == row.1 && are_paints(touched.paints.as_slice(), row.2))
 }
 
 fn change_each<L: Ledger, R: Abort>(rt: &R, alloc: Global, blank: Blank) -> Result<(), Fail>
@@ -271,119 +356,13 @@ fn change_each<L: Ledger, R: Abort>(rt: &R, alloc: Global, blank: Blank) -> Resu
 {
     let mut steps = Steps::<L>::new(blank);
     let mut board = four_windows(alloc)?;
-    let raise = Change::Raise { window: 3 };
-    let over = [painted(3, 1, 1, 3, 3)];
-    assert!(rt;
-        touches(
-            alloc,
-            &mut board,
-            &raise,
-            [1, 2, 3].as_slice(),
-            over.as_slice(),
-            &mut steps
-        )?
-    );
-    let away = Change::Move {
-        window: 1,
-        x: 2,
-        y: 2,
-    };
-    let moved = [
-        painted(0, 0, 0, 2, 1),
-        painted(0, 0, 1, 1, 2),
-        painted(1, 3, 2, 4, 3),
-        painted(1, 2, 3, 4, 4),
-    ];
-    assert!(rt;
-        touches(
-            alloc,
-            &mut board,
-            &away,
-            [1, 4].as_slice(),
-            moved.as_slice(),
-            &mut steps
-        )?
-    );
-    let small = Change::Resize {
-        window: 1,
-        width: 1,
-        height: 1,
-    };
-    let shrunk = [
-        painted(0, 3, 2, 4, 3),
-        painted(0, 2, 3, 3, 4),
-        painted(4, 3, 3, 4, 4),
-    ];
-    assert!(rt;
-        touches(
-            alloc,
-            &mut board,
-            &small,
-            [1, 4].as_slice(),
-            shrunk.as_slice(),
-            &mut steps
-        )?
-    );
-    let lower = Change::Lower { window: 3 };
-    let bared = [
-        painted(1, 2, 2, 3, 3),
-        painted(2, 1, 1, 3, 2),
-        painted(2, 1, 2, 2, 3),
-    ];
-    assert!(rt;
-        touches(
-            alloc,
-            &mut board,
-            &lower,
-            [1, 2, 3].as_slice(),
-            bared.as_slice(),
-            &mut steps
-        )?
-    );
-    let unmap = Change::Unmap { window: 2 };
-    let below = [painted(3, 1, 1, 3, 2), painted(3, 1, 2, 2, 3)];
-    assert!(rt;
-        touches(
-            alloc,
-            &mut board,
-            &unmap,
-            [2, 3].as_slice(),
-            below.as_slice(),
-            &mut steps
-        )?
-    );
-    let map = Change::Map { window: 2 };
-    let again = [painted(2, 1, 1, 3, 2), painted(2, 1, 2, 2, 3)];
-    assert!(rt;
-        touches(
-            alloc,
-            &mut board,
-            &map,
-            [2, 3].as_slice(),
-            again.as_slice(),
-            &mut steps
-        )?
-    );
+    for i in 0..CHANGES.len() {
+        assert!(rt; is_as_told(alloc, &mut board, &CHANGES[i], &mut steps)?);
+    }
     let died = bury(alloc, &mut board, 2, &mut steps)?;
-    let root = [painted(0, 1, 1, 3, 2), painted(0, 1, 2, 2, 3)];
-    assert!(rt;
-        died.windows.as_slice() == [2].as_slice() && died.paints.as_slice() == root.as_slice()
-    );
-    let unseen = Change::Move {
-        window: 2,
-        x: 0,
-        y: 0,
-    };
-    assert!(rt;
-        touches(
-            alloc,
-            &mut board,
-            &unseen,
-            [2].as_slice(),
-            [].as_slice(),
-            &mut steps
-        )?
-    );
+    assert!(rt; died.windows.as_slice() == [2].as_slice());
+    let bared = [(0, [1, 1, 3, 2]), (0, [1, 2, 2, 3])];
+    assert!(rt; are_paints(died.paints.as_slice(), &bared));
     Ok(())
 }
 
