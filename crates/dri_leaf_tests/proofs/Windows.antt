@@ -1,5 +1,5 @@
 -- The windows on a board stay on it.
-use Rattle.std.proofs.Common.{◌≡◌, ℕ, zero, suc, List, [], ◌∷◌, Bool, true, false, refl, sym, subst, Contains}
+use Rattle.std.proofs.Common.{◌≡◌, ℕ, suc, List, [], ◌∷◌, Bool, true, false, refl, sym, subst, Contains}
 use Rattle.std.specs.Prelude.{◌==◌}
 use Rattle.dri_base.specs.declared.scene.Window.{Window}
 use Rattle.dri_base.specs.Ranges.{window_numbers}

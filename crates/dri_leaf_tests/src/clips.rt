@@ -67,10 +67,9 @@ fn apply<L: Ledger>(
     change: &Change,
     steps: &mut Steps<L>,
 ) -> Result<Touched, ChangeFault>
-    requires counter { board.old.counter ≤ 1000 }
-    requires both { HasBoth board.old }
+    requires { board.old.counter ≤ 1000 }
     ensures counter { board.new.counter ≤ board.old.counter + 64 }
-    ensures both { HasBoth board.new }
+    ensures both { HasBoth board.old → HasBoth board.new }
 {
     board.arranged();
     board.apply(alloc, change, steps)
@@ -83,10 +82,11 @@ fn bury<L: Ledger>(
     owner: u32,
     steps: &mut Steps<L>,
 ) -> Result<Touched, OutOfMemory>
-    requires counter { board.old.counter ≤ 1000 }
-    requires both { HasBoth board.old }
-    ensures { HasBoth board.new }
+    requires { board.old.counter ≤ 1000 }
+    ensures counter { board.new.counter ≤ board.old.counter + 64 }
+    ensures both { HasBoth board.old → HasBoth board.new }
 {
+    board.arranged();
     board.unmap_owner(alloc, owner, steps)
 }
 
@@ -197,6 +197,178 @@ fn refuse_each<L: Ledger, R: Abort>(rt: &R, alloc: Global, blank: Blank) -> Resu
     let second = apply(alloc, &mut board, &Change::Unmap { window: 1 }, &mut steps);
     assert!(rt; matches!(second, Err(ChangeFault::NotMapped)));
     Ok(())
+}
+
+/// A square window whose colour tells its number.
+fn square(number: u8, owner: u32, x: i32, y: i32, side: u32) -> Window {
+    Window {
+        number: u32::from(number),
+        x,
+        y,
+        width: side,
+        height: side,
+        background: grey(number),
+        owner,
+        mapped: true,
+    }
+}
+
+/// On a screen of 4 by 4 window 1 hangs off it over window 2, window 3 has the rectangle of window 2 below it, and
+/// window 4 has one pixel.
+fn four_windows(alloc: Global) -> Result<Board, OutOfMemory>
+    ensures { IfOk result (λ board. board.counter ≡ 1) }
+{
+    let mut windows = Sequence::new(alloc);
+    windows.push(square(1, 1, -1, -1, 3))?;
+    windows.push(square(2, 2, 1, 1, 2))?;
+    windows.push(square(3, 2, 1, 1, 2))?;
+    windows.push(square(4, 1, 3, 3, 1))?;
+    let scene = Scene {
+        width: 4,
+        height: 4,
+        root: grey(0),
+        regions: 1,
+        region_size: 256,
+        windows,
+        clients: Sequence::new(alloc),
+        changes: Sequence::new(alloc),
+        turns: Sequence::new(alloc),
+    };
+    if !scene.in_range() {
+        return Err(OutOfMemory);
+    }
+    Board::new(alloc, &scene)
+}
+
+/// A change, the windows that it touches, and its paints: a colour's number and the rectangle's x1, y1, x2 and y2.
+#[derive(Clone, Copy)]
+struct Row(Change, &'static [u32], &'static [(u8, [u16; 4])]);
+
+const CHANGES: [Row; 9] = [
+    Row(
+        Change::Raise { window: 3 },
+        &[1, 2, 3],
+        &[(3, [1, 1, 3, 3])],
+    ),
+    Row(
+        Change::Move {
+            window: 1,
+            x: 2,
+            y: 2,
+        },
+        &[1, 4],
+        &[
+            (0, [0, 0, 2, 1]),
+            (0, [0, 1, 1, 2]),
+            (1, [3, 2, 4, 3]),
+            (1, [2, 3, 4, 4]),
+        ],
+    ),
+    Row(
+        Change::Resize {
+            window: 1,
+            width: 1,
+            height: 1,
+        },
+        &[1, 4],
+        &[(0, [3, 2, 4, 3]), (0, [2, 3, 3, 4]), (4, [3, 3, 4, 4])],
+    ),
+    Row(
+        Change::Lower { window: 3 },
+        &[1, 2, 3],
+        &[(1, [2, 2, 3, 3]), (2, [1, 1, 3, 2]), (2, [1, 2, 2, 3])],
+    ),
+    Row(
+        Change::Unmap { window: 2 },
+        &[2, 3],
+        &[(3, [1, 1, 3, 2]), (3, [1, 2, 2, 3])],
+    ),
+    Row(
+        Change::Move {
+            window: 2,
+            x: 0,
+            y: 0,
+        },
+        &[2],
+        &[],
+    ),
+    Row(
+        Change::Move {
+            window: 2,
+            x: 1,
+            y: 1,
+        },
+        &[2],
+        &[],
+    ),
+    Row(
+        Change::Map { window: 2 },
+        &[2, 3],
+        &[(2, [1, 1, 3, 2]), (2, [1, 2, 2, 3])],
+    ),
+    Row(
+        Change::Move {
+            window: 3,
+            x: 1,
+            y: 1,
+        },
+        &[],
+        &[],
+    ),
+];
+
+/// Whether the paints are these.
+fn are_paints(paints: &[Paint], wanted: &[(u8, [u16; 4])]) -> bool {
+    if paints.len() != wanted.len() {
+        return false;
+    }
+    for i in 0..wanted.len() {
+        let (number, [x1, y1, x2, y2]) = wanted[i];
+        let paint = Paint {
+            rect: ClipRect { x1, y1, x2, y2 },
+            colour: grey(number),
+        };
+        if paints[i] != paint {
+            return false;
+        }
+    }
+    true
+}
+
+/// Whether a row's change touches and paints what the row says.
+fn is_as_told<L: Ledger>(
+    alloc: Global,
+    board: &mut Board,
+    row: &Row,
+    steps: &mut Steps<L>,
+) -> Result<bool, ChangeFault>
+    requires { board.old.counter ≤ 1000 }
+    ensures { board.new.counter ≤ board.old.counter + 64 }
+{
+    let touched = apply(alloc, board, &row.0, steps)?;
+    Ok(touched.windows.as_slice() == row.1 && are_paints(touched.paints.as_slice(), row.2))
+}
+
+fn change_each<L: Ledger, R: Abort>(rt: &R, alloc: Global, blank: Blank) -> Result<(), Fail>
+    requires name { blank.name ≡ L.name }
+    requires parts { blank.parts ≡ L.parts }
+    requires one { L.parts ≡ 1 }
+{
+    let mut steps = Steps::<L>::new(blank);
+    let mut board = four_windows(alloc)?;
+    for i in 0..CHANGES.len() {
+        assert!(rt; is_as_told(alloc, &mut board, &CHANGES[i], &mut steps)?);
+    }
+    let died = bury(alloc, &mut board, 2, &mut steps)?;
+    assert!(rt; died.windows.as_slice() == [2].as_slice());
+    let bared = [(0, [1, 1, 3, 2]), (0, [1, 2, 2, 3])];
+    assert!(rt; are_paints(died.paints.as_slice(), &bared));
+    Ok(())
+}
+
+#[test]
+fn changes(rt: HostRuntime) -> Result<(), Fail> {
+    change_each::<Brand, _>(&rt, rt.alloc(), Blank::new(1))
 }
 
 #[test]

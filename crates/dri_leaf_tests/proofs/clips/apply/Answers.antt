@@ -22,4 +22,4 @@ pub returns-clause-counter : goal.returns-clause-counter
 returns-clause-counter g c = few c.apply.result c.args.change.now c.args.board.now c.apply.new.self c.apply.ensures.ok c.apply.ensures.err (c.arranged.ensures.change c.args.change.now)
 
 pub returns-clause-both : goal.returns-clause-both
-returns-clause-both g c = both c.apply.result c.args.change.now c.args.board.now c.apply.new.self c.apply.ensures.ok c.apply.ensures.err c.requires.both
+returns-clause-both g c = λ has. both c.apply.result c.args.change.now c.args.board.now c.apply.new.self c.apply.ensures.ok c.apply.ensures.err has
