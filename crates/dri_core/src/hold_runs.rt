@@ -13,7 +13,7 @@ ghost use Rattle.dri_base.specs.Ranges.{InRange, client_numbers};
 ghost use Rattle.dri_base.specs.Scenes.{commands_of};
 ghost use Rattle.dri_core.specs.Solo.{frame, IsFrame};
 
-use dri_base::{Entries, Scene};
+use dri_base::{Entry, Scene};
 
 /// The central invariant. Where nobody holds and a client left last and is out, its stamp, its copy of the clips, its
 /// origin and its local age are current and it owns the card, so its light lock needs no check. The same holds of a
@@ -49,7 +49,7 @@ pub fn solo_left()
 
 /// Entries of others leave a client's private part as it was. `client` is a client of the scene; `now` begins with
 /// `seen`, and goes on with no entry of this client.
-pub fn foreign(scene: &Scene, client: u32, seen: &Entries, now: &Entries)
+pub fn foreign(scene: &Scene, client: u32, seen: &[Entry], now: &[Entry])
     requires in_range { InRange scene.now }
     requires there { Contains (client_numbers scene.now.clients) client }
     requires seen { HoldRun scene.now seen.now }
