@@ -28,7 +28,7 @@ die_is : (o : Option Command) → is_die o ≡ true → o ≡ Some Die
 die_is (Some Die) e = refl
 die_is _ e = absurd (true≢false (sym e))
 
-number_is : (o : Option ℕ) (t : ℕ) → same_number o (Some t) ≡ true → o ≡ Some t
+pub number_is : (o : Option ℕ) (t : ℕ) → same_number o (Some t) ≡ true → o ≡ Some t
 number_is None t e = absurd (true≢false (sym e))
 number_is (Some a) t e = ap Some (grind (arith, nat_tests))
 

@@ -42,5 +42,8 @@ pub mod AgeBounds
 pub mod Bounds
 -- The windows stay on the stack
 pub mod Windows
+-- Places of lists, and how large textures are
+pub mod Lists
+pub mod TextureSizes
 -- The laws as the public functions state them
 pub mod RunLaws

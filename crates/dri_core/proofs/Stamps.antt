@@ -12,8 +12,8 @@ use Rattle.dri_core.specs.Frames.{StampTells, keeps}
 use Rattle.dri_core.specs.Restacks.{next_stack, touched_by, stamps_after}
 use Rattle.dri_core.specs.Worlds.{World}
 use Rattle.dri_core.proofs.Invariant.{Invariant}
-use Rattle.dri_model.specs.Counting.{all_below}
-use Rattle.dri_model.specs.Stacks.{clips, is_touched, origin, same_bool, same_origin, same_set, without_owner}
+use Rattle.dri_model.specs.Counting.{all_below, how_many}
+use Rattle.dri_model.specs.Stacks.{clips, is_touched, origin, restamped, same_bool, same_origin, same_set, without_owner}
 use Rattle.dri_model.proofs.Touches.{clips_kept, origin_kept, how_many_at}
 
 -- the same stack touches nothing
@@ -34,6 +34,13 @@ untouched width height ws n = rw (set, corner) refl
 
     corner : same_origin (origin ws n) (origin ws n) ≡ true
     corner = rw ((Decides-int_eq (origin ws n).0 (origin ws n).0).1 refl, (Decides-int_eq (origin ws n).1 (origin ws n).1).1 refl) refl
+
+pub none_touched : (p : ℕ → Bool) (n : ℕ) → ((k : ℕ) → p k ≡ false) → how_many p n ≡ 0
+none_touched p zero none = refl
+none_touched p (suc n) none = rw (none n) (none_touched p n none)
+
+pub unstamped : (width height : ℕ) (ws : List Window) (counter : ℕ) (stamps : ℕ → ℕ) (n : ℕ) → stamps n ≡ restamped width height ws ws counter stamps n
+unstamped width height ws counter stamps n = rw (untouched width height ws n) refl
 
 -- a new stack leaves the stamps of the windows that it doesn't touch, and no other
 stamp_kept : (s : Scene) (w : World) (new : List Window) (n : ℕ) → w.stamps n ≤ w.counter → (stamps_after s w new n == w.stamps n) ≡ not (touched_by s w new n)

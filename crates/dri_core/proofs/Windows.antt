@@ -1,4 +1,4 @@
--- The windows of a scene stay on the stack.
+-- What stays of the stack over changes and deaths: each window of the scene stays on it.
 use Rattle.std.proofs.Common.{◌≡◌, ◌⊎◌, ℕ, suc, List, [], ◌∷◌, ◌++◌, map, filter, Bool, true, false, not, ◌==◌, if◌then◌else◌, Option, Some, None, slice_get, refl, ◌∙◌, arith, inl, inr, Contains}
 use Rattle.std.proofs.lemmas.Bool.Decides.{eqb_tells}
 use Rattle.dri_base.specs.Ranges.{owner_of, window_numbers}
@@ -12,7 +12,7 @@ use Rattle.dri_core.specs.EntryTable.{after_entry}
 use Rattle.dri_core.specs.Restacks.{change_stack}
 use Rattle.dri_core.specs.Runs.{after, after_entries}
 use Rattle.dri_core.specs.Worlds.{World, opening}
-use Rattle.dri_model.specs.Stacks.{Refusal, changed, refusal, unless_refused, unmapped}
+use Rattle.dri_model.specs.Stacks.{Refusal, changed, refusal, unless_refused, unmapped, without_owner}
 
 -- the stack has window n
 abbrev pub Has : ℕ → List Window → Type 0
@@ -64,26 +64,41 @@ has_changed (Resize m width height) n ws h = has_map (λ w. if w.number == m the
 has_changed (Raise m) n ws h = has_sorted (λ w. w.number == m) n ws (n == m) (λ w e. rw e refl) h
 has_changed (Lower m) n ws h = has_sorted_back (λ w. w.number == m) n ws (n == m) (λ w e. rw e refl) h
 
-has_unless : (n : ℕ) (r : Option Refusal) (old new : List Window) → Has n new → Has n old → Has n (unless_refused r old new)
-has_unless n None old new made kept = made
-has_unless n (Some why) old new made kept = kept
+-- what stays over all changes and all deaths
+pub record Stays (P : List Window → Type 0) : Type 0 where
+  pub change : (change : Change) (ws : List Window) → refusal change ws ≡ None → P ws → P (changed change ws)
+  pub death : (c : ℕ) (ws : List Window) → P ws → P (without_owner c ws)
 
-has_restacked : (n : ℕ) (ws : List Window) (o : Option Change) → Has n ws → Has n (change_stack ws o)
-has_restacked n ws None h = h
-has_restacked n ws (Some change) h = has_unless n (refusal change ws) ws (changed change ws) (has_changed change n ws h) h
+unless : (P : List Window → Type 0) (r : Option Refusal) (old new : List Window) → (r ≡ None → P new) → P old → P (unless_refused r old new)
+unless P None old new f p = f refl
+unless P (Some why) old new f p = p
 
-has_entry : (n : ℕ) (s : Scene) (w : World) (e : Entry) → Has n w.stack → Has n (after_entry s w e).stack
-has_entry n s w (Entry_is.Change i) h = has_restacked n w.stack (slice_get s.changes w.made) h
-has_entry n s w (Entry_is.Gone c) h = has_map (unmapped c) n w.stack (λ v. number_kept (v.owner == c) (record v { mapped = false }) v refl) h
-has_entry n s w _ h = h
+after_change : (P : List Window → Type 0) → Stays P → (ws : List Window) (o : Option Change) → P ws → P (change_stack ws o)
+after_change P stays ws None p = p
+after_change P stays ws (Some change) p = unless P (refusal change ws) ws (changed change ws) (λ ok. stays.change change ws ok p) p
 
-has_along : (n : ℕ) (s : Scene) (w : World) (es : List Entry) → Has n w.stack → Has n (after_entries s w es).stack
-has_along n s w [] h = h
-has_along n s w (e ∷ es) h = has_along n s (after_entry s w e) es (has_entry n s w e h)
+stays_entry : (P : List Window → Type 0) → Stays P → (s : Scene) (w : World) (e : Entry) → P w.stack → P (after_entry s w e).stack
+stays_entry P stays s w (Entry_is.Change i) p = after_change P stays w.stack (slice_get s.changes w.made) p
+stays_entry P stays s w (Entry_is.Gone c) p = stays.death c w.stack p
+stays_entry P stays s w _ p = p
+
+stays_along : (P : List Window → Type 0) → Stays P → (s : Scene) (w : World) (es : List Entry) → P w.stack → P (after_entries s w es).stack
+stays_along P stays s w [] p = p
+stays_along P stays s w (e ∷ es) p = stays_along P stays s (after_entry s w e) es (stays_entry P stays s w e p)
+
+-- what holds of a scene's windows, and stays, holds of the stack after any journal
+pub stays_after : (P : List Window → Type 0) → Stays P → (s : Scene) (journal : List Entry) → P s.windows → P (after s journal).stack
+stays_after P stays s journal p = stays_along P stays s (opening s) journal p
+
+has_stays : (n : ℕ) → Stays (Has n)
+has_stays n = record {
+  change = λ change ws ok. has_changed change n ws;
+  death = λ c ws. has_map (unmapped c) n ws (λ w. number_kept (w.owner == c) (record w { mapped = false }) w refl);
+}
 
 -- a window of the scene is on the stack
 pub has_after : (s : Scene) (journal : List Entry) (n : ℕ) → Has n s.windows → Has n (after s journal).stack
-has_after s journal n h = has_along n s (opening s) journal h
+has_after s journal n h = stays_after (Has n) (has_stays n) s journal h
 
 pub has_owned : (ws : List Window) (n c : ℕ) → owner_of ws n ≡ Some c → Has n ws
 has_owned [] n c e = absurd (cc)

@@ -2,6 +2,7 @@
 pub mod Solo
 pub mod Phases
 pub mod Privates
+pub mod TextureSizes
 -- The world and its entries
 pub mod Worlds
 pub mod Restacks

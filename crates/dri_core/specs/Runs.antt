@@ -78,8 +78,8 @@ abbrev pub OwnerIsClean : Scene → World → Type 0
 OwnerIsClean s w = (c : ℕ) → w.owner ≡ c + 1 → IsClean (w.client c).dirty (own_registers s c (w.client c)) w.registers
 
 -- no region of the run is newer than the age
-abbrev pub IsFresh : Heap → ℕ → Heaps.Run → Type 0
-IsFresh h local run = (k : ℕ) → in_run run k ≡ true → h.age k ≤ local
+abbrev pub IsLive : Heap → ℕ → Heaps.Run → Type 0
+IsLive h local run = (k : ℕ) → in_run run k ≡ true → h.age k ≤ local
 
 -- the memory has the bytes from a base on
 abbrev pub HasBytes : (ℕ → ℕ) → ℕ → List ℕ → Type 0
@@ -87,7 +87,7 @@ HasBytes memory base bytes = (n : ℕ) → n < length bytes → memory (base + n
 
 -- texture t is live: it is placed in the run, none of whose regions is newer than its client's local age
 abbrev pub IsLiveAt : Heap → Private → ℕ → Heaps.Run → Type 0
-IsLiveAt h p t run = (p.placed t ≡ Some run) × IsFresh h p.local run
+IsLiveAt h p t run = (p.placed t ≡ Some run) × IsLive h p.local run
 
 -- region k lies in a live texture
 abbrev pub HasLive : Heap → Private → ℕ → Type 0

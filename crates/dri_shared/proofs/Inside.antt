@@ -1,7 +1,5 @@
 -- The runs of placed textures: they lie inside the regions, are in use, and have room for the texture's bytes.
-use Rattle.std.proofs.Common.{◌≡◌, ◌<◌, ◌≤◌, ℕ, ◌+◌, ◌-◌, ◌*◌, List, [], ◌∷◌, length, Bool, true, false, ◌==◌, nat_le, Option, Some, None, IfSome, refl, sym, subst, arith}
-use Rattle.std.proofs.lemmas.Bool.{and_parts}
-use Rattle.std.proofs.lemmas.Bool.Decides.{nat_tests}
+use Rattle.std.proofs.Common.{◌≡◌, ◌<◌, ◌≤◌, ℕ, ◌+◌, ◌-◌, ◌*◌, List, [], ◌∷◌, length, Bool, true, false, ◌==◌, Option, Some, None, IfSome, refl, sym, subst, arith}
 use Rattle.std.proofs.Math.Nat.{div-lt_iff_lt-mul, mul-le-mul_right}
 use Rattle.dri_base.specs.Ranges.{InRange, TextureInRange, heap_bytes}
 use Rattle.dri_base.specs.Scenes.{regions_for, textures_of}
@@ -17,13 +15,14 @@ use Rattle.dri_core.specs.Effects.{after_leave, placed_by, run_at, run_by, taken
 use Rattle.dri_core.specs.EntryTable.{LegalEntry, after_entry}
 use Rattle.dri_core.specs.Phases.{Ask, Dead, In}
 use Rattle.dri_core.specs.Privates.{Private, bound_at, placed_after, run_of, textured_with, used_run, bound_texture}
-use Rattle.dri_core.specs.Runs.{HoldRun, IsFresh, LegalEntries, after, after_entries}
+use Rattle.dri_core.specs.Runs.{HoldRun, IsLive, LegalEntries, after, after_entries}
 use Rattle.dri_core.specs.Worlds.{World, opening, put}
 use Rattle.dri_core.proofs.Parts.{put_keeps}
 use Rattle.dri_core.proofs.Sound.{sound_after}
+use Rattle.dri_core.proofs.TextureSizes.{place_inside}
 use Rattle.dri_core.proofs.Textures.{Held, kept_one, no_some, some_run}
 use Rattle.dri_model.specs.Groups.{no_groups}
-use Rattle.dri_model.specs.Heaps.{Heap, Run, classes_for, fits, freed_for, is_newer, is_place_for}
+use Rattle.dri_model.specs.Heaps.{Run, freed_for, is_newer}
 use Rattle.dri_model.specs.Words.{IsBoundInRange}
 use Rattle.dri_shared.proofs.Clients.{current}
 use Rattle.dri_texheap.specs.RegionStates.{IsInUse, IsInside}
@@ -34,13 +33,6 @@ AreInside n p = (t : ℕ) (run : Run) → p.placed t ≡ Some run → IsInside n
 
 abbrev AllInside : ℕ → World → Type 0
 AllInside n w = (c : ℕ) → AreInside n (w.client c)
-
--- a place of the heap's rule lies inside
-pub place_inside : (n : ℕ) (h : Heap) (count first : ℕ) → is_place_for n h count first ≡ true → first + count ≤ n
-place_inside n h count first e = place n h (classes_for n h count) count first (and_parts _ _ e).1
-  where
-    place : (n : ℕ) (h : Heap) (m count first : ℕ) → fits n h m count first ≡ true → first + count ≤ n
-    place n h m count first f = let low : nat_le (first + count) n ≡ true = (and_parts (nat_le (first + count) n) _ f).0 in grind (arith, nat_tests)
 
 placed_inside : (n : ℕ) (p : Private) (freed : ℕ → Bool) (t : ℕ) (new : Run) → AreInside n p → IsInside n new → (u : ℕ) (run : Run) → placed_after p.placed freed t new u ≡ Some run → IsInside n run
 placed_inside n p freed t new are inside u run e = by_case (u == t) refl
@@ -92,7 +84,7 @@ module _ (s : Scene) (journal : List Entry) (good : InRange s) (run : HoldRun s 
   pub inside_at : (t : ℕ) (r : Run) → ((after s journal).client c).placed t ≡ Some r → IsInside s.regions r
   inside_at = inside_along s (opening s) journal run (λ d t r e. absurd (no_some refl e)) c
 
-  pub fresh_at : (r : Run) → IsFresh (after s journal).heap ((after s journal).client c).local r
+  pub fresh_at : (r : Run) → IsLive (after s journal).heap ((after s journal).client c).local r
   fresh_at r k e = rw (current s journal good run c acts).local ((sound_after s journal (well_formed s good) run).textures.ages k)
 
   pub held_at : (t : ℕ) (r : Run) → ((after s journal).client c).placed t ≡ Some r → Held s (after s journal).heap (after s journal).memory c t r
