@@ -1,31 +1,21 @@
 -- The walk over the bands of two regions.
 use Rattle.std.proofs.Common.{◌≡◌, ℕ, List, [], ◌∷◌, ◌++◌, Bool, true, false, arith, refl, sym, ◌∙◌, inl, inr, ap, subst, append_assoc, get_or}
-use Rattle.std.specs.Prelude.{ℤ, pos, negsuc, ◌<ℤ◌, ◌≤ℤ◌, ◌-ℤ◌, ◌⊎◌, ◌&&◌, ◌||◌, int_lt, int_le, unsigned_abs, ◌<◌, take, drop, ◌≤◌, length, ◌+◌, zero, suc, if◌then◌else◌}
+use Rattle.std.specs.Prelude.{ℤ, pos, ◌<ℤ◌, ◌≤ℤ◌, ◌-ℤ◌, ◌⊎◌, ◌&&◌, ◌||◌, int_lt, int_le, unsigned_abs, ◌<◌, take, drop, ◌≤◌, length, ◌+◌, zero, suc, if◌then◌else◌}
 use Rattle.std.specs.Ordering.{int_eq}
 use Rattle.std.specs.List.{AllByRecursion}
 use Rattle.std.proofs.lemmas.Int.{ints, by_lt_z}
 use Rattle.std.proofs.lemmas.Bool.{true≢false, and_parts}
 use Rattle.std.proofs.lemmas.Bool.Decides.{Decides-int_eq}
+use Rattle.std.proofs.Math.Bool.{and-false, or-false, or_assoc}
 use Rattle.dri_base.specs.declared.shape.Rect.{Rect}
 use Rattle.dri_rect.specs.declared.operation.Operation.{Operation}
 use Rattle.dri_rect.specs.declared.operation.Operation.TheVariants.{Unite, Subtract, Intersect}
 use Rattle.dri_rect.specs.Pixels.{In, in_columns, in_lines, inside, IsProper, Follows, IsBanded, IsTopped, IsCanonical, least, most}
-use Rattle.dri_rect.specs.Walk.{row, answer, Apart, FitsAcross, IsRow, Fits, Bounded, IsLesser, rectangle, IsCombined, both_empty, is_done, Split, Ends, AheadDown, ReachesDown, IsBands, StretchDown, LaterDown, placed, same_columns, settled, settled_row, settled_top, CutsBand, IsCut, Built, BandWalk, IsAnswer, begins, Added, Placing, joined, joined_start, lowered, IsLevel, IsRegion, Under, IsRest}
+use Rattle.dri_rect.specs.Walk.{row, answer, Apart, FitsAcross, IsRow, Fits, Bounded, IsLesser, rectangle, IsCombined, both_empty, is_done, Split, Ends, AheadDown, ReachesDown, IsBands, StretchDown, LaterDown, placed, same_columns, settled, settled_row, settled_top, CutsBand, IsCut, Built, BandWalk, IsAnswer, begins, Added, Placing, joined, joined_start, lowered, IsLevel, IsRegion, Under, IsRest, IsTop, IsStart, Skipped, lesser_of, greater_of}
+use Rattle.dri_rect.proofs.Numbers.{low_first, low_second, high_first}
 use Rattle.dri_rect.proofs.Unique.{found, proper, each, one_band, unique}
-use Rattle.dri_rect.proofs.RowWalks.{all_weaker, all_append, row_further, row_smaller, nothing}
+use Rattle.dri_rect.proofs.RowWalks.{all_weaker, all_append, row_further, row_smaller}
 use Rattle.dri_rect.proofs.Placed.{length_append, take_front, drop_front}
-
-or_same : (a b c : Bool) → (a || b) || c ≡ a || (b || c)
-or_same true b c = refl
-or_same false b c = refl
-
-or_false : (b : Bool) → (b || false) ≡ b
-or_false true = refl
-or_false false = refl
-
-and_false : (b : Bool) → (b && false) ≡ false
-and_false true = refl
-and_false false = refl
 
 and_or : (l a b : Bool) → ((l && a) || (l && b)) ≡ (l && (a || b))
 and_or true a b = refl
@@ -33,10 +23,10 @@ and_or false a b = refl
 
 pub inside_append : (rs ss : List Rect) (x z : ℤ) → inside (rs ++ ss) x z ≡ (inside rs x z || inside ss x z)
 inside_append [] ss x z = refl
-inside_append (r ∷ rs) ss x z = ap (λ b. (in_lines r z && in_columns r x) || b) (inside_append rs ss x z) ∙ sym (or_same (in_lines r z && in_columns r x) (inside rs x z) (inside ss x z))
+inside_append (r ∷ rs) ss x z = ap (λ b. (in_lines r z && in_columns r x) || b) (inside_append rs ss x z) ∙ sym (or_assoc (in_lines r z && in_columns r x) (inside rs x z) (inside ss x z))
 
 pub inside_placed : (t b : ℤ) (rs : List Rect) (x z : ℤ) → inside (placed t b rs) x z ≡ ((int_le t z && int_lt z b) && row rs x)
-inside_placed t b [] x z = sym (and_false (int_le t z && int_lt z b))
+inside_placed t b [] x z = sym (and-false (int_le t z && int_lt z b))
 inside_placed t b (r ∷ rs) x z = ap (λ k. ((int_le t z && int_lt z b) && in_columns r x) || k) (inside_placed t b rs x z) ∙ and_or (int_le t z && int_lt z b) (in_columns r x) (row rs x)
 
 pub above_line : (rs : List Rect) (t x z : ℤ) → AllByRecursion (λ r. r.y2 ≤ℤ t) rs → t ≤ℤ z → inside rs x z ≡ false
@@ -64,9 +54,6 @@ le_true t z p = grind (arith, ints)
 
 le_false : (t z : ℤ) → z <ℤ t → int_le t z ≡ false
 le_false t z p = grind (arith, ints)
-
-lt_true : (z b : ℤ) → z <ℤ b → int_lt z b ≡ true
-lt_true z b p = grind (arith, ints)
 
 all_placed : (P : Rect → Type 0) (t b : ℤ) (rs : List Rect) → AllByRecursion (λ r. P (rectangle r.x1 t r.x2 b)) rs → AllByRecursion P (placed t b rs)
 all_placed P t b [] a = tt
@@ -165,7 +152,7 @@ pub record Flushed (out : List Rect) (y : ℤ) (S : ℤ → ℤ → Bool) : Type
 
 -- lines above the open row are as they were, lines of it are the row
 old_line : (out pending : List Rect) (top y x z : ℤ) → z <ℤ top → inside (out ++ placed top y pending) x z ≡ inside out x z
-old_line out pending top y x z l = rw (inside_append out (placed top y pending) x z, inside_placed top y pending x z, lines_before top y z l) (or_false _)
+old_line out pending top y x z l = rw (inside_append out (placed top y pending) x z, inside_placed top y pending x z, lines_before top y z l) (or-false _)
 
 new_line : (out pending : List Rect) (top y x z : ℤ) → AllByRecursion (λ r. r.y2 ≤ℤ top) out → top ≤ℤ z → z <ℤ y → inside (out ++ placed top y pending) x z ≡ row pending x
 new_line out pending top y x z a p q = rw (inside_append out (placed top y pending) x z, inside_placed top y pending x z, lines_in top y z p q, above_line out top x z a p) refl
@@ -185,7 +172,7 @@ flushed out pending top y S b hi = record {
     tops = all_placed (λ s. s.y1 ≡ top) top y pending (all_of _ pending (λ s. refl))
 
     before : (x z : ℤ) → z <ℤ top → (inside out x z || (int_le top z && row pending x)) ≡ inside out x z
-    before x z q = rw (le_false top z q) (or_false _)
+    before x z q = rw (le_false top z q) (or-false _)
 
     now : (x z : ℤ) → top ≤ℤ z → (inside out x z || (int_le top z && row pending x)) ≡ row pending x
     now x z q = rw (above_line out top x z b.above q, le_true top z q) refl
@@ -232,7 +219,7 @@ built_new out pending fresh top y e S b l lo hi other i s = record {
   above = f.above;
   low = inr lo;
   order = l;
-  right = λ x z q. by_lt_z z y (λ p. rw (le_false y z p) (or_false _ ∙ f.right x z p)) (λ p. rw (above_line _ y x z f.above p, le_true y z p) (sym (s x z p q)));
+  right = λ x z q. by_lt_z z y (λ p. rw (le_false y z p) (or-false _ ∙ f.right x z p)) (λ p. rw (above_line _ y x z f.above p, le_true y z p) (sym (s x z p q)));
   differs = λ same. absurd (true≢false (sym (same_from_rows pending fresh b.is_row i (λ x. sym (new_line out pending top y x (y -ℤ pos 1) b.above (omega (arith, ints, b.order)) (omega (arith, ints))) ∙ same x)) ∙ other));
 }
   where
@@ -352,7 +339,7 @@ stretch_down_none y l = record { longer = omega (arith, ints); steady = λ x z a
 pub stretch_down_in : (r : Rect) (rs xs ys : List Rect) (y : ℤ) → IsBands (r ∷ rs) → y <ℤ r.y2 → r.y1 ≤ℤ y → Split (r ∷ rs) xs ys r.y1 → StretchDown (r ∷ rs) y xs r.y2
 stretch_down_in r rs xs ys y i a l k = record {
   longer = a;
-  steady = λ x z p q. subst (λ w. inside w x z ≡ row xs x) (sym k.whole) (rw (inside_append xs ys x z, below_line ys r.y2 x z (behind r rs xs ys i.banded k) q, or_false (inside xs x z)) (band_row xs r.y1 r.y2 x z k.band (bottoms r rs xs ys i.banded k) (omega (arith, ints)) q));
+  steady = λ x z p q. subst (λ w. inside w x z ≡ row xs x) (sym k.whole) (rw (inside_append xs ys x z, below_line ys r.y2 x z (behind r rs xs ys i.banded k) q, or-false (inside xs x z)) (band_row xs r.y1 r.y2 x z k.band (bottoms r rs xs ys i.banded k) (omega (arith, ints)) q));
   reaches = omega (arith, ints);
   bounded = i.range.0.bottom;
   is_row = record { apart = apart_band r.y1 xs (banded_left xs ys (subst IsBanded k.whole i.banded)) k.band; fits = all_weaker Fits FitsAcross xs (λ s h. record { left = h.left; right = h.right }) (all_left Fits xs ys (subst (AllByRecursion Fits) k.whole i.range)) };
@@ -394,26 +381,88 @@ later_down_same rs y i a = record { is_bands = i; ahead = a; same = λ x z p. re
 later_down_then : (a rs ts : List Rect) (y e : ℤ) → LaterDown a rs y → y ≤ℤ e → LaterDown rs ts e → LaterDown a ts e
 later_down_then a rs ts y e p l q = record { is_bands = q.is_bands; ahead = q.ahead; same = λ x z h. p.same x z (omega (arith, ints)) ∙ q.same x z h; part = λ r h. p.part r (q.part r h) }
 
-starts_ahead : (rs : List Rect) → IsBands rs → AheadDown rs least
-starts_ahead [] i = tt
-starts_ahead (r ∷ rs) i = omega (arith, ints, i.banded.0.down, i.range.0.top)
+-- where the walk begins
+pub top_none : (rs : List Rect) → length rs ≡ 0 → IsTop rs least
+top_none [] n = record { low = omega (arith, ints); high = omega (arith, ints); above = λ x z p. refl }
+top_none (r ∷ rs) n = absurd (omega (arith, n))
 
-pub band_start : (op : Operation) (a b : List Rect) → IsBands a → IsBands b → BandWalk op a b a b [] [] (negsuc 4096) least
-band_start op a b i j = record {
-  on_first = later_down_same a least i (starts_ahead a i);
-  on_second = later_down_same b least j (starts_ahead b j);
+pub top_some : (rs : List Rect) (r : Rect) (rest : List Rect) → rs ≡ r ∷ rest → IsBands rs → IsTop rs r.y1
+top_some [] r rest e i = cc
+top_some (q ∷ qs) r rest e i = let same : q ≡ r = cc in subst (λ (s : Rect). IsTop (q ∷ qs) s.y1) same (record {
+  low = i.range.0.top;
+  high = omega (arith, ints, i.banded.0.down, i.range.0.bottom);
+  above = λ x z p. below_line (q ∷ qs) q.y1 x z (omega (arith, ints), all_weaker (Follows q) _ qs (λ s f. by i.banded.0.down s f) i.banded.1) p;
+})
+  where
+    by : q.y1 <ℤ q.y2 → (s : Rect) → Follows q s → q.y1 ≤ℤ s.y1
+    by d s (inl f) = omega (arith, ints, f.0)
+    by d s (inr f) = omega (arith, ints, f, d)
+
+lesser_low : (n t u : ℤ) → n ≤ℤ t → n ≤ℤ u → n ≤ℤ lesser_of t u
+lesser_low n t u p q = grind (arith, ints)
+
+greater_high : (n t u : ℤ) → t ≤ℤ n → u ≤ℤ n → greater_of t u ≤ℤ n
+greater_high n t u p q = grind (arith, ints)
+
+greater_second : (t u z : ℤ) → z <ℤ greater_of t u → t ≤ℤ z → z <ℤ u
+greater_second t u z p q = grind (arith, ints)
+
+pub start_unite : (a b : List Rect) (t u m : ℤ) → IsTop a t → IsTop b u → m ≡ lesser_of t u → IsStart Unite a b m
+start_unite a b t u m i j e = rw e (record {
+  low = lesser_low least t u i.low j.low;
+  high = omega (arith, ints, low_first t u, i.high);
+  nothing = λ x z p. rw (i.above x z (omega (arith, ints, p, low_first t u)), j.above x z (omega (arith, ints, p, low_second t u))) refl;
+})
+
+pub start_subtract : (a b : List Rect) (t : ℤ) → IsTop a t → IsStart Subtract a b t
+start_subtract a b t i = record { low = i.low; high = i.high; nothing = λ x z p. rw (i.above x z p) refl }
+
+pub start_intersect : (a b : List Rect) (t u m : ℤ) → IsTop a t → IsTop b u → m ≡ greater_of t u → IsStart Intersect a b m
+start_intersect a b t u m i j e = rw e (record {
+  low = omega (arith, ints, high_first t u, i.low);
+  high = greater_high most t u i.high j.high;
+  nothing = λ x z p. by_lt_z z t (λ h. rw (i.above x z h) refl) (λ h. rw (j.above x z (greater_second t u z p h)) (and-false (inside a x z)));
+})
+
+-- bands that end above a line
+pub skip_none : (rs : List Rect) (y : ℤ) → IsBands rs → Skipped rs rs y
+skip_none rs y i = record { is_bands = i; same = λ x z p. refl; part = λ r h. h }
+
+pub skip_more : (rs ts : List Rect) (r : Rect) (rest : List Rect) (y : ℤ) → Skipped rs ts y → ts ≡ r ∷ rest → r.y2 ≤ℤ y → Skipped rs rest y
+skip_more rs [] r rest y s e l = cc
+skip_more rs (q ∷ qs) r rest y s e l = let same : q ≡ r = cc in let others : qs ≡ rest = cc in subst (λ (us : List Rect). Skipped rs us y) others (record {
+  is_bands = record { banded = s.is_bands.banded.2; range = s.is_bands.range.1 };
+  same = λ x z p. s.same x z p ∙ ap (λ k. k || inside qs x z) (gone q x z (subst (λ (w : Rect). w.y2 ≤ℤ y) (sym same) l) p);
+  part = λ w h. s.part w (inr h);
+})
+  where
+    gone : (q : Rect) (x z : ℤ) → q.y2 ≤ℤ y → y ≤ℤ z → (in_lines q z && in_columns q x) ≡ false
+    gone q x z h p = let k : in_lines q z ≡ false = grind (arith, ints) in rw k refl
+
+pub skip_over : (rs ts : List Rect) (y : ℤ) → Skipped rs ts y → length ts ≡ 0 → LaterDown rs ts y
+skip_over rs [] y s n = record { is_bands = s.is_bands; ahead = tt; same = s.same; part = s.part }
+skip_over rs (t ∷ ts) y s n = absurd (omega (arith, n))
+
+pub skip_done : (rs ts : List Rect) (r : Rect) (rest : List Rect) (y : ℤ) → Skipped rs ts y → ts ≡ r ∷ rest → y <ℤ r.y2 → LaterDown rs ts y
+skip_done rs [] r rest y s e l = cc
+skip_done rs (q ∷ qs) r rest y s e l = let same : q ≡ r = cc in record { is_bands = s.is_bands; ahead = subst (λ (w : Rect). y <ℤ w.y2) (sym same) l; same = s.same; part = s.part }
+
+band_start : (op : Operation) (a b c d : List Rect) (y : ℤ) → IsStart op a b y → LaterDown a c y → LaterDown b d y → BandWalk op a b c d [] [] (y -ℤ pos 1) y
+band_start op a b c d y s k l = record {
+  on_first = k;
+  on_second = l;
   built = record {
-    canonical = record { banded = tt; topped = λ r k. absurd k };
+    canonical = record { banded = tt; topped = λ r i. absurd i };
     range = tt;
     is_row = record { apart = tt; fits = tt };
     above = tt;
     low = inl refl;
     order = omega (arith, ints);
-    right = λ x z p. rw (and_false (int_le (negsuc 4096) z), below_line a least x z (all_weaker Fits _ a (λ r h. h.top) i.range) p, below_line b least x z (all_weaker Fits _ b (λ r h. h.top) j.range) p) (sym (nothing op));
+    right = λ x z p. and-false (int_le (y -ℤ pos 1) z) ∙ sym (s.nothing x z p);
     differs = λ h. refl;
   };
-  low = omega (arith, ints);
-  high = omega (arith, ints);
+  low = s.low;
+  high = s.high;
 }
 
 pub reaches_down_less : (rs : List Rect) (e m : ℤ) → ReachesDown rs e → m ≤ℤ e → ReachesDown rs m
@@ -461,7 +510,7 @@ none Unite (r ∷ rs) ss d x z = absurd (true≢false (sym d))
 none Subtract [] ss d x z = refl
 none Subtract (r ∷ rs) ss d x z = absurd (true≢false (sym d))
 none Intersect [] ss d x z = refl
-none Intersect (r ∷ rs) [] d x z = and_false (inside (r ∷ rs) x z)
+none Intersect (r ∷ rs) [] d x z = and-false (inside (r ∷ rs) x z)
 none Intersect (r ∷ rs) (s ∷ ss) d x z = absurd (true≢false (sym d))
 
 pub no_answer : (op : Operation) (a b out : List Rect) → is_done op a b ≡ true → out ≡ [] → IsAnswer op a b out
@@ -562,11 +611,6 @@ pub first_reaches : (first below : List Rect) (y : ℤ) → ReachesDown (first +
 first_reaches [] below y a k = tt
 first_reaches (r ∷ rs) below y a k = a
 
-pub band_start_cut : (op : Operation) (a b af ab bf bb : List Rect) → IsBands a → IsBands b → IsCut a af ab → IsCut b bf bb → BandWalk op a b (af ++ ab) (bf ++ bb) [] [] (negsuc 4096) least
-band_start_cut op a b af ab bf bb i j k l =
-    subst (λ (rs : List Rect). BandWalk op a b rs (bf ++ bb) [] [] (negsuc 4096) least) k.whole
-    (subst (λ (rs : List Rect). BandWalk op a b a rs [] [] (negsuc 4096) least) l.whole (band_start op a b i j))
-
 -- where a walk is that is to pass a line
 pub reaches_line : (first below : List Rect) (e e' f' m : ℤ) → CutsBand first below → ReachesDown (first ++ below) e → e' ≡ e → IsLesser e' f' m → ReachesDown first m
 reaches_line first below e e' f' m k r same l = first_reaches first below m (reaches_down_less (first ++ below) e m r (subst (λ (n : ℤ). m ≤ℤ n) same l.first)) k
@@ -585,8 +629,8 @@ lowered_placed : (t b b' : ℤ) (ps : List Rect) → lowered b' (placed t b ps) 
 lowered_placed t b b' [] = refl
 lowered_placed t b b' (p ∷ ps) = ap (λ k. rectangle p.x1 t p.x2 b' ∷ k) (lowered_placed t b b' ps)
 
-pub placing_start : (op : Operation) (a b af ab bf bb : List Rect) → IsBands a → IsBands b → IsCut a af ab → IsCut b bf bb → Placing op a b (af ++ ab) (bf ++ bb) [] 0 least
-placing_start op a b af ab bf bb i j k l = record { out = []; pending = []; top = negsuc 4096; whole = refl; place = refl; walk = band_start_cut op a b af ab bf bb i j k l }
+pub placing_start : (op : Operation) (a b c d cf cb df db : List Rect) (y : ℤ) → IsStart op a b y → LaterDown a c y → LaterDown b d y → IsCut c cf cb → IsCut d df db → Placing op a b (cf ++ cb) (df ++ db) [] 0 y
+placing_start op a b c d cf cb df db y s k l i j = record { out = []; pending = []; top = y -ℤ pos 1; whole = refl; place = refl; walk = band_start op a b (cf ++ cb) (df ++ db) y s (subst (λ (rs : List Rect). LaterDown a rs y) i.whole k) (subst (λ (rs : List Rect). LaterDown b rs y) j.whole l) }
 
 -- where the open row begins, and ends, once a row is added
 pub placing_start_in : (op : Operation) (a b first second items added : List Rect) (start : ℕ) (y t u : ℤ) (S : ℤ → Bool) → Placing op a b first second items start y → Added items added t u S
@@ -684,7 +728,7 @@ rested out c rest y S f l k u s = record {
     under = all_under rest y l.is_bands.banded u
 
     old : (x z : ℤ) → z <ℤ y → inside (out ++ rest) x z ≡ inside out x z
-    old x z h = rw (inside_append out rest x z, below_line rest y x z (all_weaker _ _ rest (λ s g. omega (arith, ints, g)) under) h) (or_false _)
+    old x z h = rw (inside_append out rest x z, below_line rest y x z (all_weaker _ _ rest (λ s g. omega (arith, ints, g)) under) h) (or-false _)
 
     new : (x z : ℤ) → y ≤ℤ z → inside (out ++ rest) x z ≡ inside c x z
     new x z h = rw (inside_append out rest x z, above_line out y x z f.above h) (sym (l.same x z h))
@@ -723,7 +767,7 @@ placing_rest op a b first second items start y p k m d rest r = subst (λ (ts : 
     without false = refl
 
     by : (o : Operation) → BandWalk o a b first second p.out p.pending p.top y → is_done o first second ≡ false → IsRest first second rest y → Rested (whole ++ rest) (λ x z. answer o (inside a x z) (inside b x z))
-    by Unite w o (inl h) = on Unite or_false w h.0 h.1 h.2
+    by Unite w o (inl h) = on Unite or-false w h.0 h.1 h.2
     by Unite w o (inr h) = rw h.1 (rested whole b second y (λ x z. answer Unite (inside a x z) (inside b x z)) (f Unite w) w.on_second m h.2 (λ x z l. rw (gone a first w.on_first h.0 x z l) refl))
     by Subtract w o (inl h) = on Subtract without w h.0 h.1 h.2
     by Subtract w o (inr h) = absurd (true≢false (rw h.0 at o))

@@ -4,38 +4,15 @@ use Rattle.std.specs.Prelude.{ℤ, ◌<ℤ◌, ◌≤ℤ◌, ◌&&◌, ◌||◌,
 use Rattle.std.specs.List.{AllByRecursion}
 use Rattle.std.proofs.lemmas.Int.{ints}
 use Rattle.std.proofs.lemmas.Bool.{true≢false, and_parts}
+use Rattle.std.proofs.Math.Bool.{or_assoc}
 use Rattle.dri_base.specs.declared.memory.OutOfMemory.{OutOfMemory}
 use Rattle.dri_base.specs.declared.shape.Rect.{Rect}
 use Rattle.dri_rect.specs.Pixels.{has_pixel, inside}
 use Rattle.dri_rect.specs.Walk.{Fits, IsRegion, lesser_of, greater_of}
-use Rattle.dri_rect.specs.Extents.{shared_by, hull_of, reaches_round, is_nowhere, listed, Holds, Covers, FitsIfProper, IsKept}
+use Rattle.dri_rect.specs.Extents.{shared_by, hull_of, reaches_round, is_nowhere, listed, Holds, Includes, FitsIfProper, IsKept}
+use Rattle.dri_rect.proofs.Numbers.{least_both, most_both, low_first, low_second, high_first, high_second, mixed}
 use Rattle.dri_rect.proofs.Unique.{Has, tested, tests, not_true}
 use Rattle.dri_rect.proofs.Regions.{one_region, one_pixels, no_pixels}
-
--- numbers of two rectangles
-least_both : (a b z : ℤ) → int_le (greater_of a b) z ≡ (int_le a z && int_le b z)
-least_both a b z = grind (arith, ints)
-
-most_both : (a b z : ℤ) → int_lt z (lesser_of a b) ≡ (int_lt z a && int_lt z b)
-most_both a b z = grind (arith, ints)
-
-low_first : (a b : ℤ) → lesser_of a b ≤ℤ a
-low_first a b = grind (arith, ints)
-
-low_second : (a b : ℤ) → lesser_of a b ≤ℤ b
-low_second a b = grind (arith, ints)
-
-high_first : (a b : ℤ) → a ≤ℤ greater_of a b
-high_first a b = grind (arith, ints)
-
-high_second : (a b : ℤ) → b ≤ℤ greater_of a b
-high_second a b = grind (arith, ints)
-
-mixed : (p q r s : Bool) → ((p && q) && (r && s)) ≡ ((p && r) && (q && s))
-mixed true true r s = refl
-mixed true false true s = refl
-mixed true false false s = refl
-mixed false q r s = refl
 
 -- the pixels that two rectangles share
 pub shared_pixels : (a b : Rect) (x y : ℤ) → has_pixel (shared_by a b) x y ≡ (has_pixel a x y && has_pixel b x y)
@@ -157,22 +134,18 @@ holds_both a b rs ss h k x y e = let p = and_parts (inside rs x y) (inside ss x 
 pub holds_rest : (a : Rect) (rs ss : List Rect) → Holds a rs → (x y : ℤ) → (inside rs x y && not (inside ss x y)) ≡ true → has_pixel a x y ≡ true
 holds_rest a rs ss h x y e = h x y (and_parts (inside rs x y) (not (inside ss x y)) e).0
 
--- a region that another covers
-pub covers_round : (a b : Rect) (rs ss : List Rect) → length rs ≡ 0 → Holds b ss → reaches_round a b ≡ true → Covers (listed a rs) ss
-covers_round a b rs ss n h r x y e = alone_pixels a rs n x y ∙ round_pixels a b x y r (h x y e)
+-- a region that another includes
+pub includes_round : (a b : Rect) (rs ss : List Rect) → length rs ≡ 0 → Holds b ss → reaches_round a b ≡ true → Includes (listed a rs) ss
+includes_round a b rs ss n h r x y e = alone_pixels a rs n x y ∙ round_pixels a b x y r (h x y e)
 
-pub covers_nothing : (b : Rect) (rs ss ts : List Rect) → length ts ≡ 0 → ss ≡ listed b ts → is_nowhere b ≡ true → Covers rs ss
-covers_nothing b rs ss ts n l e x y i = absurd (true≢false (sym i ∙ (rw l (alone_pixels b ts n x y) ∙ nowhere b e x y)))
+pub includes_nothing : (b : Rect) (rs ss ts : List Rect) → length ts ≡ 0 → ss ≡ listed b ts → is_nowhere b ≡ true → Includes rs ss
+includes_nothing b rs ss ts n l e x y i = absurd (true≢false (sym i ∙ (rw l (alone_pixels b ts n x y) ∙ nowhere b e x y)))
 
 -- a rectangle round one more
-or_same : (a b c : Bool) → (a || b) || c ≡ a || (b || c)
-or_same true b c = refl
-or_same false b c = refl
-
 one_more : (rs : List Rect) (n : ℕ) (d : Rect) (x y : ℤ) → n < length rs → inside (take (suc n) rs) x y ≡ (inside (take n rs) x y || has_pixel (get_or rs n d) x y)
 one_more [] n d x y l = absurd (omega (arith, l))
 one_more (r ∷ rs) zero d x y l = one_pixels r x y
-one_more (r ∷ rs) (suc n) d x y l = ap (λ k. has_pixel r x y || k) (one_more rs n d x y (omega (arith, l))) ∙ sym (or_same (has_pixel r x y) (inside (take n rs) x y) (has_pixel (get_or rs n d) x y))
+one_more (r ∷ rs) (suc n) d x y l = ap (λ k. has_pixel r x y || k) (one_more rs n d x y (omega (arith, l))) ∙ sym (or_assoc (has_pixel r x y) (inside (take n rs) x y) (has_pixel (get_or rs n d) x y))
 
 pub hold_more : (b : Rect) (rs : List Rect) (n : ℕ) (d : Rect) → n < length rs → Holds b (take n rs) → Holds (hull_of b (get_or rs n d)) (take (n + 1) rs)
 hold_more b rs n d l h x y = let e : n + 1 ≡ suc n = omega arith in rw (e, one_more rs n d x y l) (by (inside (take n rs) x y) refl)

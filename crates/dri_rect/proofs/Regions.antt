@@ -1,9 +1,10 @@
 -- Regions: alone, moved, and by the walk.
 use Rattle.std.proofs.Common.{◌≡◌, ℕ, zero, suc, ◌<◌, ◌+◌, length, get_or, take, List, [], ◌∷◌, ◌++◌, Bool, true, false, arith, refl, sym, ◌∙◌, inl, inr, ap, subst}
-use Rattle.std.specs.Prelude.{ℤ, pos, ◌<ℤ◌, ◌≤ℤ◌, ◌-ℤ◌, ◌+ℤ◌, ◌⊎◌, ◌&&◌, ◌||◌}
+use Rattle.std.specs.Prelude.{ℤ, pos, ◌<ℤ◌, ◌≤ℤ◌, ◌-ℤ◌, ◌+ℤ◌, ◌⊎◌, ◌&&◌}
 use Rattle.std.specs.List.{AllByRecursion}
 use Rattle.std.proofs.lemmas.Int.{ints}
 use Rattle.std.proofs.lemmas.Bool.{true≢false}
+use Rattle.std.proofs.Math.Bool.{or-false}
 use Rattle.dri_base.proofs.Shifts.{le_moved, lt_moved}
 use Rattle.dri_base.specs.declared.shape.Rect.{Rect}
 use Rattle.dri_rect.proofs.Unique.{found}
@@ -15,10 +16,6 @@ none_region = record { canonical = record { banded = tt; topped = λ r i. absurd
 
 pub bands : (rs : List Rect) → IsRegion rs → IsBands rs
 bands rs r = record { banded = r.canonical.banded; range = r.range }
-
-or_false : (b : Bool) → (b || false) ≡ b
-or_false true = refl
-or_false false = refl
 
 pub one_region : (r : Rect) → Fits r → r.x1 <ℤ r.x2 → r.y1 <ℤ r.y2 → IsRegion (r ∷ [])
 one_region r w a d = record {
@@ -50,7 +47,7 @@ no_pixels r (inr h) x y = let k : in_lines r y ≡ false = grind (arith, ints) i
 
 -- the pixels of one rectangle
 pub one_pixels : (r : Rect) (x y : ℤ) → inside (r ∷ []) x y ≡ has_pixel r x y
-one_pixels r x y = or_false (has_pixel r x y)
+one_pixels r x y = or-false (has_pixel r x y)
 
 -- numbers in range, with and without a pixel
 pub range_fits : (r : Rect) → IsInRange r → Fits r

@@ -4,6 +4,7 @@ use Rattle.std.specs.Prelude.{ℤ, pos, ◌<ℤ◌, ◌≤ℤ◌, ◌-ℤ◌, �
 use Rattle.std.specs.List.{AllByRecursion}
 use Rattle.std.proofs.lemmas.Int.{ints, by_lt_z}
 use Rattle.std.proofs.lemmas.Bool.{true≢false}
+use Rattle.std.proofs.Math.Bool.{and-false, and-true, or-false, or_assoc}
 use Rattle.dri_base.specs.declared.shape.Rect.{Rect}
 use Rattle.dri_rect.specs.declared.operation.Operation.{Operation}
 use Rattle.dri_rect.specs.declared.operation.Operation.TheVariants.{Unite, Subtract, Intersect}
@@ -18,25 +19,9 @@ pub all_append : (P : Rect → Type 0) (rs ss : List Rect) → AllByRecursion P 
 all_append P [] ss a b = b
 all_append P (r ∷ rs) ss a b = (a.0, all_append P rs ss a.1 b)
 
-or_same : (a b c : Bool) → (a || b) || c ≡ a || (b || c)
-or_same true b c = refl
-or_same false b c = refl
-
-or_false : (b : Bool) → (b || false) ≡ b
-or_false true = refl
-or_false false = refl
-
-and_true_b : (b : Bool) → (b && true) ≡ b
-and_true_b true = refl
-and_true_b false = refl
-
-and_none : (b : Bool) → (b && false) ≡ false
-and_none true = refl
-and_none false = refl
-
 pub row_append : (rs ss : List Rect) (z : ℤ) → row (rs ++ ss) z ≡ (row rs z || row ss z)
 row_append [] ss z = refl
-row_append (r ∷ rs) ss z = ap (λ b. in_columns r z || b) (row_append rs ss z) ∙ sym (or_same (in_columns r z) (row rs z) (row ss z))
+row_append (r ∷ rs) ss z = ap (λ b. in_columns r z || b) (row_append rs ss z) ∙ sym (or_assoc (in_columns r z) (row rs z) (row ss z))
 
 pub row_none : (rs : List Rect) (e z : ℤ) → AllByRecursion (λ s. e <ℤ s.x1) rs → z ≤ℤ e → row rs z ≡ false
 row_none [] e z a l = refl
@@ -55,6 +40,10 @@ placed_append t b (r ∷ rs) ss = ap (λ k. rectangle r.x1 t r.x2 b ∷ k) (plac
 apart_push : (out : List Rect) (s x : ℤ) → Apart out → AllByRecursion (λ r. r.x2 <ℤ s) out → s <ℤ x → Apart (out ++ (rectangle s (pos 0) x (pos 1) ∷ []))
 apart_push [] s x a b l = (l, tt, tt)
 apart_push (r ∷ rs) s x a b l = (a.0, all_append (λ t. r.x2 <ℤ t.x1) rs (rectangle s (pos 0) x (pos 1) ∷ []) a.1 (b.0, tt), apart_push rs s x a.2 b.1 l)
+
+-- what stays of a row behind its first rectangle
+pub rest_row : (r : Rect) (rs : List Rect) → IsRow (r ∷ rs) → IsRow rs
+rest_row r rs i = record { apart = i.apart.2; fits = i.fits.1 }
 
 -- the lesser and the greater
 pub lesser_is : (a b : ℤ) → IsLesser a b (lesser_of a b)
@@ -78,7 +67,7 @@ pub row_columns : (a b z : ℤ) → row (columns a b) z ≡ (int_le a z && int_l
 row_columns a b z = by_lt_z a b (λ h. some h) (λ h. none h)
   where
     some : a <ℤ b → row (columns a b) z ≡ (int_le a z && int_lt z b)
-    some h = let e : int_lt a b ≡ true = grind (arith, ints) in rw e (or_false _)
+    some h = let e : int_lt a b ≡ true = grind (arith, ints) in rw e (or-false _)
 
     none : b ≤ℤ a → row (columns a b) z ≡ (int_le a z && int_lt z b)
     none h = let e : int_lt a b ≡ false = grind (arith, ints) in rw e (grind (arith, ints))
@@ -123,7 +112,7 @@ done_none Unite (r ∷ rs) ss z d = absurd (true≢false (sym d))
 done_none Subtract [] ss z d = refl
 done_none Subtract (r ∷ rs) ss z d = absurd (true≢false (sym d))
 done_none Intersect [] ss z d = refl
-done_none Intersect (r ∷ rs) [] z d = and_none (row (r ∷ rs) z)
+done_none Intersect (r ∷ rs) [] z d = and-false (row (r ∷ rs) z)
 done_none Intersect (r ∷ rs) (s ∷ ss) z d = absurd (true≢false (sym d))
 
 pub done_open : (op : Operation) (rs ss : List Rect) → is_done op rs ss ≡ false → both_empty rs ss ≡ false
@@ -136,7 +125,7 @@ done_open Intersect (r ∷ rs) (s ∷ ss) e = refl
 
 -- an operation with an empty row
 pub unite_first : (a b old out : List Rect) (t u : ℤ) → IsRow a → length b ≡ 0 → out ≡ old ++ placed t u a → Added old out t u (λ z. answer Unite (row a z) (row b z))
-unite_first a [] old out t u i n e = record { fresh = a; items = e; is_row = i; right = λ z. sym (or_false (row a z)) }
+unite_first a [] old out t u i n e = record { fresh = a; items = e; is_row = i; right = λ z. sym (or-false (row a z)) }
 unite_first a (s ∷ ss) old out t u i n e = absurd (omega (arith, n))
 
 pub unite_second : (a b old out : List Rect) (t u : ℤ) → IsRow b → length a ≡ 0 → out ≡ old ++ placed t u b → Added old out t u (λ z. answer Unite (row a z) (row b z))
@@ -144,7 +133,7 @@ unite_second [] b old out t u i n e = record { fresh = b; items = e; is_row = i;
 unite_second (s ∷ ss) b old out t u i n e = absurd (omega (arith, n))
 
 pub subtract_first : (a b old out : List Rect) (t u : ℤ) → IsRow a → length b ≡ 0 → out ≡ old ++ placed t u a → Added old out t u (λ z. answer Subtract (row a z) (row b z))
-subtract_first a [] old out t u i n e = record { fresh = a; items = e; is_row = i; right = λ z. sym (and_true_b (row a z)) }
+subtract_first a [] old out t u i n e = record { fresh = a; items = e; is_row = i; right = λ z. sym (and-true (row a z)) }
 subtract_first a (s ∷ ss) old out t u i n e = absurd (omega (arith, n))
 
 pub nothing_added : (op : Operation) (a b old out : List Rect) (t u : ℤ) → is_done op a b ≡ true → out ≡ old → Added old out t u (λ z. answer op (row a z) (row b z))

@@ -4,25 +4,12 @@ use Rattle.std.specs.Prelude.{ℤ, ◌<ℤ◌, ◌≤ℤ◌, ◌⊎◌, ◌&&◌
 use Rattle.std.specs.List.{AllByRecursion}
 use Rattle.std.proofs.lemmas.Int.{ints, by_lt_z}
 use Rattle.std.proofs.lemmas.Bool.{true≢false}
+use Rattle.std.proofs.Math.Bool.{and-false, or-false, or_assoc}
 use Rattle.dri_base.specs.declared.shape.Rect.{Rect}
 use Rattle.dri_rect.specs.Pixels.{in_columns, least}
 use Rattle.dri_rect.specs.Walk.{row, IsRow, lesser_of, greater_of, columns, put, Added, From, Beyond, Subtracting, Intersecting}
-use Rattle.dri_rect.proofs.RowWalks.{all_weaker, all_append, row_append, row_columns, row_put, put_items, row_none, left_of}
-
-rest_row : (r : Rect) (rs : List Rect) → IsRow (r ∷ rs) → IsRow rs
-rest_row r rs i = record { apart = i.apart.2; fits = i.fits.1 }
-
-or_same : (a b c : Bool) → (a || b) || c ≡ a || (b || c)
-or_same true b c = refl
-or_same false b c = refl
-
-or_false : (b : Bool) → (b || false) ≡ b
-or_false true = refl
-or_false false = refl
-
-and_false : (b : Bool) → (b && false) ≡ false
-and_false true = refl
-and_false false = refl
+use Rattle.dri_rect.proofs.Numbers.{least_both, most_both, low_first, low_second, high_first, high_second, mixed}
+use Rattle.dri_rect.proofs.RowWalks.{rest_row, all_weaker, all_append, row_append, row_columns, row_put, put_items, row_none, left_of}
 
 -- a piece put last, which ends where this holds
 put_before : (P : ℤ → Type 0) (fresh : List Rect) (a b : ℤ) → AllByRecursion (λ r. P r.x2) fresh → P b → AllByRecursion (λ r. P r.x2) (fresh ++ columns a b)
@@ -47,7 +34,7 @@ subtract_start a b old t u i j = record {
   first_row = i;
   second_row = j;
   reach = reached b j;
-  right = λ z. by_lt_z z least (λ h. rw (left_of a z i.fits h, and_false (int_le least z)) refl) (λ h. let k : int_le least z ≡ true = grind (arith, ints) in rw k refl);
+  right = λ z. by_lt_z z least (λ h. rw (left_of a z i.fits h, and-false (int_le least z)) refl) (λ h. let k : int_le least z ≡ true = grind (arith, ints) in rw k refl);
 }
 
 -- the first rectangle's columns from x on
@@ -58,15 +45,9 @@ piece r x e z = grind (arith, ints)
 ahead_of : (r : Rect) (rs : List Rect) (x : ℤ) (fresh : List Rect) → AllByRecursion (λ s. (s.x2 <ℤ x) ⊎ Beyond (r ∷ rs) s.x2) fresh → AllByRecursion (λ s. s.x2 <ℤ greater_of x r.x1) fresh
 ahead_of r rs x fresh a = all_weaker _ _ fresh by a
   where
-    up : (p q : ℤ) → p ≤ℤ greater_of p q
-    up p q = grind (arith, ints)
-
-    over : (p q : ℤ) → q ≤ℤ greater_of p q
-    over p q = grind (arith, ints)
-
     by : (s : Rect) → (s.x2 <ℤ x) ⊎ Beyond (r ∷ rs) s.x2 → s.x2 <ℤ greater_of x r.x1
-    by s (inl l) = omega (arith, ints, l, up x r.x1)
-    by s (inr l) = omega (arith, ints, l.0, over x r.x1)
+    by s (inl l) = omega (arith, ints, l, high_first x r.x1)
+    by s (inr l) = omega (arith, ints, l.0, high_second x r.x1)
 
 from_low : (x a : ℤ) → least ≤ℤ x → least ≤ℤ greater_of x a
 from_low x a l = grind (arith, ints)
@@ -90,7 +71,7 @@ subtract_whole one other old out t u x r rs second w f = record {
   first_row = rest_row r rs w.first_row;
   second_row = w.second_row;
   reach = w.reach;
-  right = λ z. rw (row_append w.fresh (columns (greater_of x r.x1) r.x2) z, row_columns (greater_of x r.x1) r.x2 z, piece r x r.x2 z) (or_same (row w.fresh z) _ _ ∙ (ap (λ k. row w.fresh z || k) (sum z) ∙ w.right z));
+  right = λ z. rw (row_append w.fresh (columns (greater_of x r.x1) r.x2) z, row_columns (greater_of x r.x1) r.x2 z, piece r x r.x2 z) (or_assoc (row w.fresh z) _ _ ∙ (ap (λ k. row w.fresh z || k) (sum z) ∙ w.right z));
 }
   where
     free : (z : ℤ) → z <ℤ r.x2 → (ss : List Rect) → From ss r.x2 → row ss z ≡ false
@@ -144,14 +125,14 @@ cut_picture r s rs ss x z L K i j reach early same = by_lt_z z s.x1 sooner (λ h
         let b : int_le s.x2 z ≡ false = grind (arith, ints) in
         let c : int_le s.x1 z ≡ true = grind (arith, ints) in
         let d : int_lt z s.x2 ≡ true = grind (arith, ints) in
-        rw (a, b, c, d, and_false (int_le x z && int_le r.x1 z)) (sym (and_false (int_le x z && row (r ∷ rs) z)))
+        rw (a, b, c, d, and-false (int_le x z && int_le r.x1 z)) (sym (and-false (int_le x z && row (r ∷ rs) z)))
 
     later : s.x2 ≤ℤ z → (((int_le x z && int_le r.x1 z) && int_lt z s.x1) || ((int_le s.x2 z && L) && not K)) ≡ ((int_le x z && row (r ∷ rs) z) && not (row (s ∷ ss) z))
     later h =
         let a : int_lt z s.x1 ≡ false = grind (arith, ints, down) in
         let b : int_le s.x2 z ≡ true = grind (arith, ints) in
         let c : int_le x z ≡ true = grind (arith, ints, reach) in
-        rw (a, b, c, and_false (int_le r.x1 z)) (same h)
+        rw (a, b, c, and-false (int_le r.x1 z)) (same h)
 
 cut_none : (r : Rect) (z : ℤ) → r.x2 ≤ℤ z → in_columns r z ≡ false
 cut_none r z h = grind (arith, ints)
@@ -168,7 +149,7 @@ subtract_inside one other old out t u x r s rs ss w early = record {
   first_row = w.first_row;
   second_row = rest_row s ss w.second_row;
   reach = all_weaker _ _ ss (λ q a. omega (arith, ints, a.0, a.1)) (both ss w.second_row.apart.1 (rest_row s ss w.second_row));
-  right = λ z. rw (row_append w.fresh (columns (greater_of x r.x1) s.x1) z, row_columns (greater_of x r.x1) s.x1 z, piece r x s.x1 z) (or_same (row w.fresh z) _ _ ∙ (ap (λ k. row w.fresh z || k) (cut_picture r s rs ss x z (row (r ∷ rs) z) (row ss z) w.first_row w.second_row w.reach.0 early (λ h. rw (cut_none s z h) refl)) ∙ w.right z));
+  right = λ z. rw (row_append w.fresh (columns (greater_of x r.x1) s.x1) z, row_columns (greater_of x r.x1) s.x1 z, piece r x s.x1 z) (or_assoc (row w.fresh z) _ _ ∙ (ap (λ k. row w.fresh z || k) (cut_picture r s rs ss x z (row (r ∷ rs) z) (row ss z) w.first_row w.second_row w.reach.0 early (λ h. rw (cut_none s z h) refl)) ∙ w.right z));
 }
   where
     both : (qs : List Rect) → AllByRecursion (λ q. s.x2 <ℤ q.x1) qs → IsRow qs → AllByRecursion (λ q. (s.x2 <ℤ q.x1) × (q.x1 <ℤ q.x2)) qs
@@ -187,7 +168,7 @@ subtract_past one other old out t u x r s rs ss w early ends = record {
   first_row = rest_row r rs w.first_row;
   second_row = w.second_row;
   reach = (omega (arith, ints), all_weaker _ _ ss (λ q a. omega (arith, ints, a.0, a.1)) (both ss w.second_row.apart.1 (rest_row s ss w.second_row)));
-  right = λ z. rw (row_append w.fresh (columns (greater_of x r.x1) s.x1) z, row_columns (greater_of x r.x1) s.x1 z, piece r x s.x1 z) (or_same (row w.fresh z) _ _ ∙ (ap (λ k. row w.fresh z || k) (cut_picture r s rs ss x z (row rs z) (row (s ∷ ss) z) w.first_row w.second_row w.reach.0 early (λ h. rw (cut_none r z (omega (arith, ints, h, ends))) refl)) ∙ w.right z));
+  right = λ z. rw (row_append w.fresh (columns (greater_of x r.x1) s.x1) z, row_columns (greater_of x r.x1) s.x1 z, piece r x s.x1 z) (or_assoc (row w.fresh z) _ _ ∙ (ap (λ k. row w.fresh z || k) (cut_picture r s rs ss x z (row rs z) (row (s ∷ ss) z) w.first_row w.second_row w.reach.0 early (λ h. rw (cut_none r z (omega (arith, ints, h, ends))) refl)) ∙ w.right z));
 }
   where
     both : (qs : List Rect) → AllByRecursion (λ q. s.x2 <ℤ q.x1) qs → IsRow qs → AllByRecursion (λ q. (s.x2 <ℤ q.x1) × (q.x1 <ℤ q.x2)) qs
@@ -200,50 +181,26 @@ subtract_end one other (r ∷ rs) second old out t u x w n t' u' et eu = absurd 
 subtract_end one other [] second old out t u x w n t' u' et eu = rw (sym et, sym eu) (record { fresh = w.fresh; items = w.items; is_row = w.is_row; right = λ z. sym (shape (row w.fresh z) (int_le x z) (row second z)) ∙ w.right z })
   where
     shape : (p q k : Bool) → (p || ((q && false) && not k)) ≡ p
-    shape p true k = or_false p
-    shape p false k = or_false p
+    shape p true k = or-false p
+    shape p false k = or-false p
 
 -- where the intersection begins, and a piece of it
 pub intersect_start : (a b old : List Rect) (t u : ℤ) → IsRow a → IsRow b → Intersecting a b a b old old t u
 intersect_start a b old t u i j = record { fresh = []; items = sym (append-nil old); is_row = record { apart = tt; fits = tt }; before = tt; first_row = i; second_row = j; right = λ z. refl }
 
-least_both : (a b z : ℤ) → int_le (greater_of a b) z ≡ (int_le a z && int_le b z)
-least_both a b z = grind (arith, ints)
-
-most_both : (a b z : ℤ) → int_lt z (lesser_of a b) ≡ (int_lt z a && int_lt z b)
-most_both a b z = grind (arith, ints)
-
-mixed : (p q r s : Bool) → ((p && q) && (r && s)) ≡ ((p && r) && (q && s))
-mixed true true r s = refl
-mixed true false true s = refl
-mixed true false false s = refl
-mixed false q r s = refl
-
 common : (r s : Rect) (z : ℤ) → (int_le (greater_of r.x1 s.x1) z && int_lt z (lesser_of r.x2 s.x2)) ≡ (in_columns r z && in_columns s z)
 common r s z = rw (least_both r.x1 s.x1 z, most_both r.x2 s.x2 z) (mixed (int_le r.x1 z) (int_le s.x1 z) (int_lt z r.x2) (int_lt z s.x2))
-
-up : (p q : ℤ) → p ≤ℤ greater_of p q
-up p q = grind (arith, ints)
-
-over : (p q : ℤ) → q ≤ℤ greater_of p q
-over p q = grind (arith, ints)
-
-below : (p q : ℤ) → lesser_of p q ≤ℤ p
-below p q = grind (arith, ints)
-
-beneath : (p q : ℤ) → lesser_of p q ≤ℤ q
-beneath p q = grind (arith, ints)
 
 ahead_both : (r s : Rect) (rs ss fresh : List Rect) → AllByRecursion (λ q. Beyond (r ∷ rs) q.x2 ⊎ Beyond (s ∷ ss) q.x2) fresh → AllByRecursion (λ q. q.x2 <ℤ greater_of r.x1 s.x1) fresh
 ahead_both r s rs ss fresh a = all_weaker _ _ fresh by a
   where
     by : (q : Rect) → Beyond (r ∷ rs) q.x2 ⊎ Beyond (s ∷ ss) q.x2 → q.x2 <ℤ greater_of r.x1 s.x1
-    by q (inl l) = omega (arith, ints, l.0, up r.x1 s.x1)
-    by q (inr l) = omega (arith, ints, l.0, over r.x1 s.x1)
+    by q (inl l) = omega (arith, ints, l.0, high_first r.x1 s.x1)
+    by q (inr l) = omega (arith, ints, l.0, high_second r.x1 s.x1)
 
 -- nothing is both in the rectangle that ends first and behind the other
 ends_first : (r s : Rect) (ss : List Rect) (z : ℤ) → r.x2 ≤ℤ s.x2 → AllByRecursion (λ q. s.x2 <ℤ q.x1) ss → (in_columns r z && row ss z) ≡ false
-ends_first r s ss z l a = by_lt_z z r.x2 (λ h. let k : row ss z ≡ false = row_none ss s.x2 z a (omega (arith, ints, h, l)) in rw k (and_false (in_columns r z))) (λ h. rw (cut_none r z h) refl)
+ends_first r s ss z l a = by_lt_z z r.x2 (λ h. let k : row ss z ≡ false = row_none ss s.x2 z a (omega (arith, ints, h, l)) in rw k (and-false (in_columns r z))) (λ h. rw (cut_none r z h) refl)
 
 drop_first : (i o m k : Bool) → (i && k) ≡ false → ((i && o) || (m && (o || k))) ≡ ((i || m) && (o || k))
 drop_first true true true k e = refl
@@ -264,12 +221,12 @@ pub intersect_first : (one other old out : List Rect) (t u : ℤ) (r s : Rect) (
 intersect_first one other old out t u r s rs ss w ends = record {
   fresh = w.fresh ++ columns (greater_of r.x1 s.x1) (lesser_of r.x2 s.x2);
   items = put_items old out w.fresh t u (greater_of r.x1 s.x1) (lesser_of r.x2 s.x2) w.items;
-  is_row = row_put w.fresh (greater_of r.x1 s.x1) (lesser_of r.x2 s.x2) w.is_row (ahead_both r s rs ss w.fresh w.before) (omega (arith, ints, w.first_row.fits.0.left, up r.x1 s.x1)) (omega (arith, ints, w.first_row.fits.0.right, below r.x2 s.x2));
-  before = put_before (λ e. Beyond rs e ⊎ Beyond (s ∷ ss) e) w.fresh (greater_of r.x1 s.x1) (lesser_of r.x2 s.x2) (all_weaker _ _ w.fresh by w.before) (inl (all_weaker _ _ rs (λ q l. omega (arith, ints, l, below r.x2 s.x2)) w.first_row.apart.1));
+  is_row = row_put w.fresh (greater_of r.x1 s.x1) (lesser_of r.x2 s.x2) w.is_row (ahead_both r s rs ss w.fresh w.before) (omega (arith, ints, w.first_row.fits.0.left, high_first r.x1 s.x1)) (omega (arith, ints, w.first_row.fits.0.right, low_first r.x2 s.x2));
+  before = put_before (λ e. Beyond rs e ⊎ Beyond (s ∷ ss) e) w.fresh (greater_of r.x1 s.x1) (lesser_of r.x2 s.x2) (all_weaker _ _ w.fresh by w.before) (inl (all_weaker _ _ rs (λ q l. omega (arith, ints, l, low_first r.x2 s.x2)) w.first_row.apart.1));
   first_row = rest_row r rs w.first_row;
   second_row = w.second_row;
   right = λ z. rw (row_append w.fresh (columns (greater_of r.x1 s.x1) (lesser_of r.x2 s.x2)) z, row_columns (greater_of r.x1 s.x1) (lesser_of r.x2 s.x2) z, common r s z)
-      (or_same (row w.fresh z) _ _ ∙ (ap (λ k. row w.fresh z || k) (drop_first (in_columns r z) (in_columns s z) (row rs z) (row ss z) (ends_first r s ss z ends w.second_row.apart.1)) ∙ w.right z));
+      (or_assoc (row w.fresh z) _ _ ∙ (ap (λ k. row w.fresh z || k) (drop_first (in_columns r z) (in_columns s z) (row rs z) (row ss z) (ends_first r s ss z ends w.second_row.apart.1)) ∙ w.right z));
 }
   where
     by : (q : Rect) → Beyond (r ∷ rs) q.x2 ⊎ Beyond (s ∷ ss) q.x2 → Beyond rs q.x2 ⊎ Beyond (s ∷ ss) q.x2
@@ -281,12 +238,12 @@ pub intersect_second : (one other old out : List Rect) (t u : ℤ) (r s : Rect) 
 intersect_second one other old out t u r s rs ss w ends = record {
   fresh = w.fresh ++ columns (greater_of r.x1 s.x1) (lesser_of r.x2 s.x2);
   items = put_items old out w.fresh t u (greater_of r.x1 s.x1) (lesser_of r.x2 s.x2) w.items;
-  is_row = row_put w.fresh (greater_of r.x1 s.x1) (lesser_of r.x2 s.x2) w.is_row (ahead_both r s rs ss w.fresh w.before) (omega (arith, ints, w.first_row.fits.0.left, up r.x1 s.x1)) (omega (arith, ints, w.first_row.fits.0.right, below r.x2 s.x2));
-  before = put_before (λ e. Beyond (r ∷ rs) e ⊎ Beyond ss e) w.fresh (greater_of r.x1 s.x1) (lesser_of r.x2 s.x2) (all_weaker _ _ w.fresh by w.before) (inr (all_weaker _ _ ss (λ q l. omega (arith, ints, l, beneath r.x2 s.x2)) w.second_row.apart.1));
+  is_row = row_put w.fresh (greater_of r.x1 s.x1) (lesser_of r.x2 s.x2) w.is_row (ahead_both r s rs ss w.fresh w.before) (omega (arith, ints, w.first_row.fits.0.left, high_first r.x1 s.x1)) (omega (arith, ints, w.first_row.fits.0.right, low_first r.x2 s.x2));
+  before = put_before (λ e. Beyond (r ∷ rs) e ⊎ Beyond ss e) w.fresh (greater_of r.x1 s.x1) (lesser_of r.x2 s.x2) (all_weaker _ _ w.fresh by w.before) (inr (all_weaker _ _ ss (λ q l. omega (arith, ints, l, low_second r.x2 s.x2)) w.second_row.apart.1));
   first_row = w.first_row;
   second_row = rest_row s ss w.second_row;
   right = λ z. rw (row_append w.fresh (columns (greater_of r.x1 s.x1) (lesser_of r.x2 s.x2)) z, row_columns (greater_of r.x1 s.x1) (lesser_of r.x2 s.x2) z, common r s z)
-      (or_same (row w.fresh z) _ _ ∙ (ap (λ k. row w.fresh z || k) (drop_second (in_columns r z) (in_columns s z) (row rs z) (row ss z) (ends_first s r rs z ends w.first_row.apart.1)) ∙ w.right z));
+      (or_assoc (row w.fresh z) _ _ ∙ (ap (λ k. row w.fresh z || k) (drop_second (in_columns r z) (in_columns s z) (row rs z) (row ss z) (ends_first s r rs z ends w.first_row.apart.1)) ∙ w.right z));
 }
   where
     by : (q : Rect) → Beyond (r ∷ rs) q.x2 ⊎ Beyond (s ∷ ss) q.x2 → Beyond (r ∷ rs) q.x2 ⊎ Beyond ss q.x2
@@ -295,11 +252,11 @@ intersect_second one other old out t u r s rs ss w ends = record {
 
 pub intersect_end : (one other first second old out : List Rect) (t u : ℤ) → Intersecting one other first second old out t u → (length first ≡ 0) ⊎ (length second ≡ 0)
     → (t' u' : ℤ) → t ≡ t' → u ≡ u' → Added old out t' u' (λ z. row one z && row other z)
-intersect_end one other first second old out t u w n t' u' et eu = rw (sym et, sym eu) (record { fresh = w.fresh; items = w.items; is_row = w.is_row; right = λ z. sym (rw (over_now first second n z) (or_false (row w.fresh z))) ∙ w.right z })
+intersect_end one other first second old out t u w n t' u' et eu = rw (sym et, sym eu) (record { fresh = w.fresh; items = w.items; is_row = w.is_row; right = λ z. sym (rw (over_now first second n z) (or-false (row w.fresh z))) ∙ w.right z })
   where
     over_now : (rs ss : List Rect) → (length rs ≡ 0) ⊎ (length ss ≡ 0) → (z : ℤ) → (row rs z && row ss z) ≡ false
     over_now [] ss n z = refl
-    over_now (r ∷ rs) [] n z = and_false (row (r ∷ rs) z)
+    over_now (r ∷ rs) [] n z = and-false (row (r ∷ rs) z)
     over_now (r ∷ rs) (s ∷ ss) (inl n) z = absurd (omega (arith, n))
     over_now (r ∷ rs) (s ∷ ss) (inr n) z = absurd (omega (arith, n))
 

@@ -203,13 +203,13 @@ pub unique : (rs ts : List Rect) → IsCanonical rs → IsCanonical ts → SameP
 unique rs ts c d same = same_lists rs ts c.banded d.banded (λ r i. goes rs ts c d same r i) (λ r i. goes ts rs d c (λ x y. sym (same x y)) r i)
   where
     goes : (rs ts : List Rect) → IsCanonical rs → IsCanonical ts → SamePixels rs ts → (r : Rect) → In r rs → In r ts
-    goes rs ts c d same r i = by (find ts r.x1 r.y1 (sym (same r.x1 r.y1) ∙ found rs r r.x1 r.y1 i corner))
+    goes rs ts c d same r i = by (find ts r.x1 r.y1 (sym (same r.x1 r.y1) ∙ found rs r r.x1 r.y1 i first_pixel))
       where
         size : IsProper r
         size = proper rs r c.banded i
 
-        corner : Has r r.x1 r.y1
-        corner = record { left = omega (arith, ints, size.across, size.down); right = omega (arith, ints, size.across, size.down); top = omega (arith, ints, size.across, size.down); bottom = omega (arith, ints, size.across, size.down) }
+        first_pixel : Has r r.x1 r.y1
+        first_pixel = record { left = omega (arith, ints, size.across, size.down); right = omega (arith, ints, size.across, size.down); top = omega (arith, ints, size.across, size.down); bottom = omega (arith, ints, size.across, size.down) }
 
         moved : (s : Rect) → Maximal (inside ts) s → Maximal (inside rs) s
         moved s m = record {
@@ -223,4 +223,4 @@ unique rs ts c d same = same_lists rs ts c.banded d.banded (λ r i. goes rs ts c
         }
 
         by : (s : Rect) × In s ts × Has s r.x1 r.y1 → In r ts
-        by f = subst (λ q. In q ts) (sym (one (inside rs) r f.0 r.x1 r.y1 (maximal rs r c i) (moved f.0 (maximal ts f.0 d f.1)) corner f.2)) f.1
+        by f = subst (λ q. In q ts) (sym (one (inside rs) r f.0 r.x1 r.y1 (maximal rs r c i) (moved f.0 (maximal ts f.0 d f.1)) first_pixel f.2)) f.1

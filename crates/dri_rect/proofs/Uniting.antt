@@ -4,27 +4,16 @@ use Rattle.std.specs.Prelude.{ℤ, ◌<ℤ◌, ◌≤ℤ◌, ◌&&◌, ◌||◌,
 use Rattle.std.specs.List.{AllByRecursion}
 use Rattle.std.proofs.lemmas.Int.{ints}
 use Rattle.std.proofs.lemmas.Bool.{true≢false}
+use Rattle.std.proofs.Math.Bool.{or-false, or_assoc}
 use Rattle.dri_base.specs.declared.shape.Rect.{Rect}
 use Rattle.dri_rect.specs.Pixels.{in_columns, least, most}
 use Rattle.dri_rect.specs.Walk.{row, FitsAcross, IsRow, greater_of, columns, put, Added, both_empty, From, IsPicked, widened, wide_from, wide_to, Uniting}
-use Rattle.dri_rect.proofs.RowWalks.{all_weaker, all_append, row_append, row_columns, row_put, put_items}
+use Rattle.dri_rect.proofs.RowWalks.{rest_row, all_weaker, all_append, row_append, row_columns, row_put, put_items}
 
 or_swap : (a b c : Bool) → (a || (b || c)) ≡ (b || (a || c))
 or_swap true true c = refl
 or_swap true false c = refl
 or_swap false b c = refl
-
-or_same : (a b c : Bool) → (a || b) || c ≡ a || (b || c)
-or_same true b c = refl
-or_same false b c = refl
-
-or_false : (b : Bool) → (b || false) ≡ b
-or_false true = refl
-or_false false = refl
-
--- what stays of a row behind its first rectangle
-rest_row : (r : Rect) (rs : List Rect) → IsRow (r ∷ rs) → IsRow rs
-rest_row r rs i = record { apart = i.apart.2; fits = i.fits.1 }
 
 rest_from : (r : Rect) (rs : List Rect) (n : ℤ) → n ≤ℤ r.x1 → IsRow (r ∷ rs) → From rs n
 rest_from r rs n l i = all_weaker _ _ rs (λ s h. omega (arith, ints, h, i.apart.0, l)) i.apart.1
@@ -41,7 +30,7 @@ first_is r rs ss i j f = record {
   first_from = rest_from r rs r.x1 (omega (arith, ints)) i;
   second_from = f;
   fewer = omega arith;
-  same = λ z. or_same (in_columns r z) (row rs z) (row ss z);
+  same = λ z. or_assoc (in_columns r z) (row rs z) (row ss z);
 }
 
 second_is : (s : Rect) (rs ss : List Rect) → IsRow rs → IsRow (s ∷ ss) → From rs s.x1 → IsPicked rs (s ∷ ss) s.x1 s.x2 rs ss
@@ -156,7 +145,7 @@ unite_on one other first second old out t u a b w x1 x2 left right k = by (int_l
       second_row = k.second_row;
       first_from = k.first_from;
       second_from = k.second_from;
-      right = λ z. rw (row_append w.fresh (columns a b) z, row_columns a b z) (or_same (row w.fresh z || (int_le a z && int_lt z b)) (int_le x1 z && int_lt z x2) (row left z || row right z) ∙ (ap (λ q. (row w.fresh z || (int_le a z && int_lt z b)) || q) (sym (k.same z)) ∙ w.right z));
+      right = λ z. rw (row_append w.fresh (columns a b) z, row_columns a b z) (or_assoc (row w.fresh z || (int_le a z && int_lt z b)) (int_le x1 z && int_lt z x2) (row left z || row right z) ∙ (ap (λ q. (row w.fresh z || (int_le a z && int_lt z b)) || q) (sym (k.same z)) ∙ w.right z));
     })
       where
         ahead : b <ℤ x1
@@ -178,7 +167,7 @@ unite_end one other [] [] old out t u a b w d out' t' u' a' b' et eu ea eb put_l
   fresh = w.fresh ++ columns a b;
   items = is ∙ put_items old out w.fresh t u a b w.items;
   is_row = row_put w.fresh a b w.is_row w.before w.low w.high;
-  right = λ z. rw (row_append w.fresh (columns a b) z, row_columns a b z) (sym (or_false (row w.fresh z || (int_le a z && int_lt z b))) ∙ w.right z);
+  right = λ z. rw (row_append w.fresh (columns a b) z, row_columns a b z) (sym (or-false (row w.fresh z || (int_le a z && int_lt z b))) ∙ w.right z);
 })
   where
     is : out' ≡ put out t u a b

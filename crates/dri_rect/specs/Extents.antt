@@ -30,8 +30,8 @@ abbrev pub Holds : Rect → List Rect → Type 0
 Holds bounds rs = (x y : ℤ) → inside rs x y ≡ true → has_pixel bounds x y ≡ true
 
 -- each pixel of the second set is in the first
-abbrev pub Covers : List Rect → List Rect → Type 0
-Covers rs ss = (x y : ℤ) → inside ss x y ≡ true → inside rs x y ≡ true
+abbrev pub Includes : List Rect → List Rect → Type 0
+Includes rs ss = (x y : ℤ) → inside ss x y ≡ true → inside rs x y ≡ true
 
 -- if the rectangle has a pixel, it lies within the range
 abbrev pub FitsIfProper : Rect → Type 0

@@ -232,6 +232,24 @@ pub record LaterDown (rs ts : List Rect) (y : ℤ) : Type 0 where
   pub same : (x z : ℤ) → y ≤ℤ z → inside rs x z ≡ inside ts x z
   pub part : (r : Rect) → In r ts → In r rs
 
+-- no rectangle has a line above y, which is in range
+pub record IsTop (rs : List Rect) (y : ℤ) : Type 0 where
+  pub low : least ≤ℤ y
+  pub high : y ≤ℤ most
+  pub above : (x z : ℤ) → z <ℤ y → inside rs x z ≡ false
+
+-- nothing of the answer is above line y, which is in range
+pub record IsStart (op : Operation) (a b : List Rect) (y : ℤ) : Type 0 where
+  pub low : least ≤ℤ y
+  pub high : y ≤ℤ most
+  pub nothing : (x z : ℤ) → z <ℤ y → answer op (inside a x z) (inside b x z) ≡ false
+
+-- ts is rs without some bands that end above line y
+pub record Skipped (rs ts : List Rect) (y : ℤ) : Type 0 where
+  pub is_bands : IsBands ts
+  pub same : (x z : ℤ) → y ≤ℤ z → inside rs x z ≡ inside ts x z
+  pub part : (r : Rect) → In r ts → In r rs
+
 -- the first rectangle begins below line y
 abbrev pub Under : List Rect → ℤ → Type 0
 Under [] y = Unit {0}

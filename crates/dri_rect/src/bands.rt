@@ -2,11 +2,11 @@
 
 ghost use Rattle.std.specs.Prelude.{◌≡◌, ◌++◌, ◌≤ℤ◌, IfOk, OnOk, take, drop, ◌≤◌, length, vec_len};
 ghost use Rattle.dri_rect.specs.Pixels.{most};
-ghost use Rattle.dri_rect.specs.Walk.{IsBands, IsCut, CutsBand, IsAnswer, Split, StretchDown, LaterDown, ReachesDown, AheadDown, lowered, joined, joined_start, same_columns, begins, IsRegion, IsRest};
+ghost use Rattle.dri_rect.specs.Walk.{IsBands, IsCut, CutsBand, IsAnswer, Split, StretchDown, LaterDown, ReachesDown, AheadDown, lowered, joined, joined_start, same_columns, begins, IsRegion, IsRest, IsTop, IsStart};
 ghost use Rattle.std.specs.Option.{IfSome};
 
 use crate::operation::Operation;
-use crate::rows::{BEHIND, LEAST, combine_rows, is_done, is_same_row, lesser};
+use crate::rows::{BEHIND, LEAST, combine_rows, greater, is_done, is_same_row, lesser};
 use dri_base::{OutOfMemory, Rect};
 use std::alloc::Global;
 
@@ -96,6 +96,46 @@ fn pass(bands: Bands<'_>, y: i32) -> Bands<'_>
     }
 }
 
+/// The first line of some bands, or the least line, where there are none.
+#[tactic(auto, using(crate::proofs::BandWalks::top_none))]
+fn top_of(rects: &[Rect]) -> i32
+    requires { IsBands rects.now }
+    ensures { IsTop rects.now result }
+{
+    match rects.split_first() {
+        None => LEAST,
+        Some((head, _)) => head.y1,
+    }
+}
+
+/// The line at which the walk begins: nothing of the answer is above it.
+fn first_line(operation: Operation, first: &[Rect], second: &[Rect]) -> i32
+    requires first { IsBands first.now }
+    requires second { IsBands second.now }
+    ensures { IsStart operation first.now second.now result }
+{
+    match operation {
+        Operation::Unite => lesser(top_of(first), top_of(second)),
+        Operation::Subtract => top_of(first),
+        Operation::Intersect => greater(top_of(first), top_of(second)),
+    }
+}
+
+/// The bands without those that end above a line.
+fn skip(rects: &[Rect], y: i32) -> &[Rect]
+    requires { IsBands rects.now }
+    ensures { LaterDown rects.now result.now y }
+{
+    let mut rest = rects;
+    while let Some((head, others)) = rest.split_first() {
+        if y < head.y2 {
+            return rest;
+        }
+        rest = others;
+    }
+    rest
+}
+
 /// The bands of one, where the other is over and these begin below a line.
 fn rest_of<'a>(above: Bands<'a>, below: Bands<'a>, y: i32) -> Option<Bands<'a>>
     requires above { CutsBand above.first.now above.below.now }
@@ -160,8 +200,9 @@ fn settle(out: &mut Vec<Rect>, start: usize, fresh: usize, bottom: i32) -> usize
     }
 }
 
-/// The operation on two regions, by one walk over the bands of both. Where one of them is over, what is left of the other is
-/// copied whole. Where nothing can come it takes no memory.
+/// The operation on two regions, by one walk over the bands of both. Bands of which nothing can come, since they end above the
+/// other's first line, are skipped. Where one of the two is over, what is left of the other is copied whole. Where nothing
+/// can come it takes no memory.
 #[tactic(auto, using(crate::proofs::BandWalks::no_answer))]
 pub fn combine(
     alloc: Global,
@@ -177,10 +218,10 @@ pub fn combine(
         return Ok(Vec::new(alloc));
     }
     let mut out = Vec::with_capacity(alloc, first.len() + second.len())?;
-    let mut above = bands_of(first);
-    let mut below = bands_of(second);
+    let mut y = first_line(operation, first, second);
+    let mut above = bands_of(skip(first, y));
+    let mut below = bands_of(skip(second, y));
     let mut start = 0;
-    let mut y = LEAST;
     while !is_done(operation, above.first, below.first) {
         if let Some(rest) = rest_of(above, below, y) {
             put_bands(rest, &mut out)?;

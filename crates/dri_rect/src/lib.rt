@@ -19,4 +19,5 @@ mod operation;
 mod region;
 mod rows;
 
+pub use extents::shared;
 pub use region::Region;

@@ -2,7 +2,7 @@ ghost use Rattle.std.specs.Prelude.{◌≡◌, true, [], ◌≤ℤ◌, ◌-ℤ�
 ghost use Rattle.std.specs.List.{AllByRecursion, All, AllPairs};
 ghost use Rattle.dri_rect.specs.Pixels.{has_pixel, inside, SamePixels, IsInRange, IsProper, ComesBefore, IsApart, StaysInRange, shift, moved};
 ghost use Rattle.dri_rect.specs.Walk.{Movable, answer, IsRegion};
-ghost use Rattle.dri_rect.specs.Extents.{Covers, FitsIfProper, Holds};
+ghost use Rattle.dri_rect.specs.Extents.{Includes, FitsIfProper, Holds};
 
 use crate::bands::combine;
 use crate::extents::{hull, is_nowhere, reaches_round, shared};
@@ -172,8 +172,8 @@ impl Region {
 
     /// Whether it is seen without a walk that this set has each pixel of the other: the other is empty, or this is one
     /// rectangle, round the other's bounds.
-    fn covers(&self, other: &Region) -> bool
-        ensures { result ≡ true → Covers self.now other.now }
+    fn includes(&self, other: &Region) -> bool
+        ensures { result ≡ true → Includes self.now other.now }
     {
         if self.rects.len() == 0 && reaches_round(&self.bounds, &other.bounds) {
             return true;
@@ -244,10 +244,10 @@ impl Region {
         ensures steps { steps.new ≡ steps.old + 1 }
     {
         steps.tick();
-        if self.covers(other) {
+        if self.includes(other) {
             return self.duplicate(alloc);
         }
-        if other.covers(self) {
+        if other.includes(self) {
             return other.duplicate(alloc);
         }
         let bounds = hull(&self.bounds, &other.bounds);
@@ -268,7 +268,7 @@ impl Region {
         if is_nowhere(&shared(&self.bounds, &other.bounds)) {
             return self.duplicate(alloc);
         }
-        if other.covers(self) {
+        if other.includes(self) {
             return Ok(Region::nothing(alloc));
         }
         self.combined(alloc, Operation::Subtract, other, self.bounds)
@@ -292,10 +292,10 @@ impl Region {
         if self.rects.len() == 0 && other.rects.len() == 0 {
             return Ok(Region::alone(alloc, bounds));
         }
-        if self.covers(other) {
+        if self.includes(other) {
             return other.duplicate(alloc);
         }
-        if other.covers(self) {
+        if other.includes(self) {
             return self.duplicate(alloc);
         }
         self.combined(alloc, Operation::Intersect, other, bounds)

@@ -1,19 +1,21 @@
-use Rattle.std.proofs.Common.{◌≡◌, length, sym, ◌∙◌, w32, rules, arith}
-use Rattle.std.specs.Prelude.{false, true}
+use Rattle.std.proofs.Common.{◌≡◌, length, sym, subst, ◌∙◌, w32, rules, arith}
+use Rattle.std.specs.Prelude.{ℤ, false, true}
 use Rattle.std.proofs.lemmas.Int.{to_z-of_z}
 use mir.Val.{SFits}
-use Rattle.dri_rect.specs.Walk.{is_done}
+use Rattle.dri_rect.specs.Walk.{IsStart, is_done}
 use Rattle.dri_rect.proofs.RowWalks.{done_open}
 use Rattle.dri_rect.proofs.BandWalks.{placing_start, placing_start_in, placing_step, placing_done, placing_rest, band_smaller, done_whole, reaches_line, reaches_line_too, over_whole}
 use Rattle.dri_rect.proofs.Regions.{bands}
 use Rattle.dri_rect.proofs.bands.combine.Goals as goal
 
 pub loop-above-init : goal.loop-above-init
-loop-above-init c = record {
-  walk = rw c.in_ok-out.ensures.items (placing_start c.args.operation c.args.first.now c.args.second.now _ _ _ _ (bands _ c.requires.first) (bands _ c.requires.second) c.bands_of-above.ensures c.bands_of-below.ensures);
-  cut_above = c.bands_of-above.ensures.cuts;
-  cut_below = c.bands_of-below.ensures.cuts;
-}
+loop-above-init c =
+    let f : SFits w32 c.first_line-y.result = search rules in
+    record {
+      walk = rw c.in_ok-out.ensures.items (placing_start c.args.operation c.args.first.now c.args.second.now _ _ _ _ _ _ _ (subst (λ (m : ℤ). IsStart c.args.operation c.args.first.now c.args.second.now m) (sym (to_z-of_z w32 c.first_line-y.result f)) c.first_line-y.ensures) c.skip.ensures c.skip-2.ensures c.bands_of-above.ensures c.bands_of-below.ensures);
+      cut_above = c.bands_of-above.ensures.cuts;
+      cut_below = c.bands_of-below.ensures.cuts;
+    }
 
 pub settle-start-requires-clause-start : goal.settle-start-requires-clause-start
 settle-start-requires-clause-start c = omega (arith, c.len-fresh.ensures, (placing_start_in _ _ _ _ _ _ _ _ _ _ _ _ c.loop-above.invariant.walk c.in_ok-combine_rows.ensures).0)
@@ -63,11 +65,17 @@ returns c =
     let over = sym (done_whole c.args.operation _ _ _ _ c.loop-above.invariant.cut_above c.loop-above.invariant.cut_below) ∙ t in
     placing_done _ _ _ _ _ _ _ _ c.loop-above.invariant.walk over
 
-pub bands_of-above-requires : goal.bands_of-above-requires
-bands_of-above-requires c = bands _ c.requires.first
+pub first_line-y-requires-clause-first : goal.first_line-y-requires-clause-first
+first_line-y-requires-clause-first c = bands _ c.requires.first
 
-pub bands_of-below-requires : goal.bands_of-below-requires
-bands_of-below-requires c = bands _ c.requires.second
+pub first_line-y-requires-clause-second : goal.first_line-y-requires-clause-second
+first_line-y-requires-clause-second c = bands _ c.requires.second
+
+pub skip-requires : goal.skip-requires
+skip-requires c = bands _ c.requires.first
+
+pub skip-requires-2 : goal.skip-requires-2
+skip-requires-2 c = bands _ c.requires.second
 
 pub returns-in-Some : goal.returns-in-Some
 returns-in-Some c =
