@@ -6,8 +6,9 @@ use Rattle.std.proofs.lemmas.List.{append-nil, take_more}
 use Rattle.std.proofs.lemmas.Grind.{flat_map-append}
 use Rattle.dri_base.specs.declared.scene.Scene.{Scene}
 use Rattle.dri_base.specs.declared.scene.ClientScript.{ClientScript}
-use Rattle.dri_scene.specs.Texts.{Adds, block_lines, end_words, head_lines, lines_behind_windows, client_lines, change_words, item_words, window_words, scene_lines, scene_text}
-use Rattle.dri_words.specs.Lines.{line_bytes}
+use Rattle.dri_scene.specs.declared.words.Word.{Word}
+use Rattle.dri_scene.specs.Texts.{Adds, block_lines, end_words, head_lines, lines_behind_windows, client_lines, change_words, item_words, window_words, scene_lines, scene_text, spaced, spelled}
+use Rattle.dri_words.specs.Lines.{line_bytes, words_bytes}
 
 -- a piece, and then another
 pub joined : {t u v a b : List ℕ} → Adds t a u → Adds u b v → Adds t (a ++ b) v
@@ -32,6 +33,15 @@ carried first then = record { is = then.is ∙ first.is }
 -- a piece behind a text
 pub behind : (t a : List ℕ) → Adds t a (t ++ a)
 behind t a = record { is = refl }
+
+-- words, and those behind them
+pub spaced_words : (ws : List Word) (more : List (List ℕ)) → flat_map spaced ws ++ words_bytes more ≡ words_bytes (map spelled ws ++ more)
+spaced_words [] more = refl
+spaced_words (w ∷ ws) more = append_assoc (spaced w) (flat_map spaced ws) (words_bytes more) ∙ ap (λ t. spaced w ++ t) (spaced_words ws more)
+
+-- words that were put, with those behind them
+pub put_before : {t u v : List ℕ} (ws : List Word) (more : List (List ℕ)) → Adds t (flat_map spaced ws) u → Adds u (words_bytes more) v → Adds t (words_bytes (map spelled ws ++ more)) v
+put_before ws more put rest = adds_same (joined put rest) (spaced_words ws more)
 
 -- what follows where a call went well
 pub on_ok : {A E : Type 0} {P Q : Type 0} (r : Result A E) → (P → Q) → OnOk r P → OnOk r Q

@@ -8,6 +8,8 @@ use Rattle.dri_base.specs.declared.scene.ClientScript.{ClientScript}
 use Rattle.dri_base.specs.declared.scene.Scene.{Scene}
 use Rattle.dri_base.specs.declared.shape.Vertex.{Vertex}
 use Rattle.dri_base.specs.declared.texture.Texture.{Texture}
+use Rattle.dri_scene.specs.declared.words.Word.{Word}
+use Rattle.dri_scene.specs.declared.words.Word.TheVariants as words
 
 -- three bytes
 pub record IsColour (c : Rgb) : Type 0 where
@@ -21,6 +23,13 @@ pub record IsColourAlpha (c : Rgba) : Type 0 where
   pub g : c.g < 256
   pub b : c.b < 256
   pub a : c.a < 256
+
+-- a word's number of sixteen bits, or its colour
+abbrev pub IsStoredWord : Word → Type 0
+IsStoredWord (words.Small n) = n < 65536
+IsStoredWord (words.Colour c) = IsColour c
+IsStoredWord (words.ColourAlpha c) = IsColourAlpha c
+IsStoredWord word = Unit {0}
 
 -- a corner's numbers of sixteen bits, and its colour
 pub record IsCorner (v : Vertex) : Type 0 where

@@ -29,6 +29,8 @@ use Rattle.dri_base.specs.declared.state.Setting.TheVariants as Setting_is
 use Rattle.dri_base.specs.declared.texture.TexFormat.{TexFormat}
 use Rattle.dri_base.specs.declared.texture.TexFormat.TheVariants as Format_is
 use Rattle.dri_base.specs.declared.texture.Texture.{Texture}
+use Rattle.dri_scene.specs.declared.words.Word.{Word}
+use Rattle.dri_scene.specs.declared.words.Word.TheVariants as words
 use Rattle.dri_words.specs.Lines.{line_bytes}
 
 -- a hexadecimal digit in lower case
@@ -60,6 +62,20 @@ window_words w = codes "window" ∷ decimal w.number ∷ signed_decimal w.x ∷ 
 abbrev pub format_word : TexFormat → List ℕ
 format_word Format_is.L8 = codes "l8"
 format_word Format_is.Rgb565 = codes "rgb565"
+
+-- a word's bytes
+abbrev pub spelled : Word → List ℕ
+spelled (words.Number n) = decimal n
+spelled (words.Small n) = decimal n
+spelled (words.Signed z) = signed_decimal z
+spelled (words.Colour c) = colour_word c
+spelled (words.ColourAlpha c) = colour_alpha_word c
+spelled (words.Mapped is_up) = mapped_word is_up
+spelled (words.Format format) = format_word format
+
+-- a space and a word's bytes
+abbrev pub spaced : Word → List ℕ
+spaced word = 32 ∷ spelled word
 
 -- the words of a texture line
 abbrev pub texture_words : Texture → List (List ℕ)

@@ -5,17 +5,15 @@ ghost use Rattle.std.specs.List.{flat_map};
 ghost use Rattle.dri_base.specs.Ranges.{InRange};
 ghost use Rattle.dri_scene.specs.Readings.{scene_of};
 ghost use Rattle.dri_scene.specs.Stored.{IsColour, IsStoredClient, IsStoredCommand, IsStoredTexture};
-ghost use Rattle.dri_scene.specs.Texts.{Adds, block_lines, change_words, client_lines, command_words, format_word, head_lines, item_words, mapped_word, scene_text, screen_words, texture_words, window_words};
+ghost use Rattle.dri_scene.specs.Texts.{Adds, block_lines, change_words, client_lines, command_words, head_lines, item_words, scene_text, screen_words, texture_words, window_words};
 ghost use Rattle.dri_words.specs.Lines.{line_bytes};
 ghost use Rattle.dri_base.specs.declared.command.Change.TheVariants as Change;
 
 use crate::print_command::push_command;
-use crate::words::{
-    end_line, push_bytes, push_colour, push_digits, push_image, push_number, push_signed, push_word,
-};
+use crate::words::{Word, end_line, push_bytes, push_digits, push_image, push_line, push_words};
 use dri_base::{
     Bytes, Change, Changes, ClientScript, Clients, Commands, Item, Items, OutOfMemory, Scene,
-    TexFormat, Texture, Textures, Window, Windows,
+    Texture, Textures, Window, Windows,
 };
 use std::alloc::{AllocError, Global};
 
@@ -24,47 +22,17 @@ fn push_window(text: &mut Vec<u8>, window: &Window) -> Result<(), AllocError>
     ensures text { OnOk result (Adds text.old.items (line_bytes (window_words window.now)) text.new.items) }
     ensures stored { OnOk result (IsColour window.now.background) }
 {
-    push_bytes(text, b"window")?;
-    push_number(text, window.number)?;
-    push_signed(text, window.x)?;
-    push_signed(text, window.y)?;
-    push_number(text, window.width)?;
-    push_number(text, window.height)?;
-    push_colour(text, window.background)?;
-    push_number(text, window.owner)?;
-    push_mapped(text, window.mapped)?;
-    end_line(text)
-}
-
-/// A space, and `up` or `down`
-fn push_mapped(text: &mut Vec<u8>, mapped: bool) -> Result<(), AllocError>
-    ensures { OnOk result (Adds text.old.items (32 ∷ mapped_word mapped) text.new.items) }
-{
-    push_word(text, mapped_word(mapped))
-}
-
-/// `up` or `down`
-fn mapped_word(mapped: bool) -> &'static [u8]
-    ensures { result.now ≡ mapped_word mapped }
-{
-    if mapped { b"up" } else { b"down" }
-}
-
-/// `l8` or `rgb565`
-fn format_word(format: TexFormat) -> &'static [u8]
-    ensures { result.now ≡ format_word format }
-{
-    match format {
-        TexFormat::L8 => b"l8",
-        TexFormat::Rgb565 => b"rgb565",
-    }
-}
-
-/// A space, and `l8` or `rgb565`
-fn push_format(text: &mut Vec<u8>, format: TexFormat) -> Result<(), AllocError>
-    ensures { OnOk result (Adds text.old.items (32 ∷ format_word format) text.new.items) }
-{
-    push_word(text, format_word(format))
+    let words = [
+        Word::Number(window.number),
+        Word::Signed(window.x),
+        Word::Signed(window.y),
+        Word::Number(window.width),
+        Word::Number(window.height),
+        Word::Colour(window.background),
+        Word::Number(window.owner),
+        Word::Mapped(window.mapped),
+    ];
+    push_line(text, b"window", &words)
 }
 
 /// `texture T l8 WIDTH HEIGHT HEX`, or `rgb565`
@@ -72,11 +40,14 @@ fn push_texture(text: &mut Vec<u8>, texture: &Texture) -> Result<(), AllocError>
     ensures text { OnOk result (Adds text.old.items (line_bytes (texture_words texture.now)) text.new.items) }
     ensures stored { OnOk result (IsStoredTexture texture.now) }
 {
+    let words = [
+        Word::Number(texture.number),
+        Word::Format(texture.shape.format),
+        Word::Number(texture.shape.width),
+        Word::Number(texture.shape.height),
+    ];
     push_bytes(text, b"texture")?;
-    push_number(text, texture.number)?;
-    push_format(text, texture.shape.format)?;
-    push_number(text, texture.shape.width)?;
-    push_number(text, texture.shape.height)?;
+    push_words(text, &words)?;
     push_image(text, &texture.bytes)?;
     end_line(text)
 }
@@ -85,9 +56,7 @@ fn push_texture(text: &mut Vec<u8>, texture: &Texture) -> Result<(), AllocError>
 fn push_numbered(text: &mut Vec<u8>, name: &[u8], number: u32) -> Result<(), AllocError>
     ensures { OnOk result (Adds text.old.items (line_bytes (name.now ∷ decimal number ∷ [])) text.new.items) }
 {
-    push_bytes(text, name)?;
-    push_number(text, number)?;
-    end_line(text)
+    push_line(text, name, &[Word::Number(number)])
 }
 
 /// A name and two numbers
@@ -99,32 +68,27 @@ fn push_twice_numbered(
 ) -> Result<(), AllocError>
     ensures { OnOk result (Adds text.old.items (line_bytes (name.now ∷ decimal first ∷ decimal second ∷ [])) text.new.items) }
 {
-    push_bytes(text, name)?;
-    push_number(text, first)?;
-    push_number(text, second)?;
-    end_line(text)
+    push_line(text, name, &[Word::Number(first), Word::Number(second)])
 }
 
 /// `move W X Y`
 fn push_move(text: &mut Vec<u8>, window: u32, x: i32, y: i32) -> Result<(), AllocError>
     ensures { OnOk result (Adds text.old.items (line_bytes (change_words (Change.Move window x y))) text.new.items) }
 {
-    push_bytes(text, b"move")?;
-    push_number(text, window)?;
-    push_signed(text, x)?;
-    push_signed(text, y)?;
-    end_line(text)
+    let words = [Word::Number(window), Word::Signed(x), Word::Signed(y)];
+    push_line(text, b"move", &words)
 }
 
 /// `resize W WIDTH HEIGHT`
 fn push_resize(text: &mut Vec<u8>, window: u32, width: u32, height: u32) -> Result<(), AllocError>
     ensures { OnOk result (Adds text.old.items (line_bytes (change_words (Change.Resize window width height))) text.new.items) }
 {
-    push_bytes(text, b"resize")?;
-    push_number(text, window)?;
-    push_number(text, width)?;
-    push_number(text, height)?;
-    end_line(text)
+    let words = [
+        Word::Number(window),
+        Word::Number(width),
+        Word::Number(height),
+    ];
+    push_line(text, b"resize", &words)
 }
 
 /// A change's line.
@@ -170,11 +134,12 @@ fn push_screen(text: &mut Vec<u8>, scene: &Scene) -> Result<(), AllocError>
     ensures text { OnOk result (Adds text.old.items (line_bytes (screen_words scene.now)) text.new.items) }
     ensures stored { OnOk result (IsColour scene.now.root) }
 {
-    push_bytes(text, b"screen")?;
-    push_number(text, scene.width)?;
-    push_number(text, scene.height)?;
-    push_colour(text, scene.root)?;
-    end_line(text)
+    let words = [
+        Word::Number(scene.width),
+        Word::Number(scene.height),
+        Word::Colour(scene.root),
+    ];
+    push_line(text, b"screen", &words)
 }
 
 /// The lines of the head.

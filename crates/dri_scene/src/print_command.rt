@@ -7,10 +7,7 @@ ghost use Rattle.dri_scene.specs.Stored.{IsCorner, IsStoredCommand};
 ghost use Rattle.dri_scene.specs.Texts.{Adds, blend_word, command_words, corner_words, depth_func_word, setting_words, shade_word, switch_word, tex_mode_word, wrap_word};
 ghost use Rattle.dri_words.specs.Lines.{line_bytes, words_bytes};
 
-use crate::words::{
-    end_line, push_bytes, push_colour, push_colour_alpha, push_number, push_signed, push_small,
-    push_word,
-};
+use crate::words::{Word, end_line, push_bytes, push_line, push_word, push_words};
 use dri_base::{
     Blend, ClipRect, Command, DepthFunc, Rgb, Setting, Shade, TexMode, Triangle, Vertex, Wrap,
 };
@@ -95,23 +92,20 @@ fn push_plain_setting(text: &mut Vec<u8>, name: &[u8], word: &[u8]) -> Result<()
 fn push_bind(text: &mut Vec<u8>, texture: u32) -> Result<(), AllocError>
     ensures { OnOk result (Adds text.old.items (line_bytes (codes "set" ∷ codes "bind" ∷ decimal texture ∷ [])) text.new.items) }
 {
-    push_bytes(text, b"set")?;
-    push_word(text, b"bind")?;
-    push_number(text, texture)?;
-    end_line(text)
+    push_line(text, b"set bind", &[Word::Number(texture)])
 }
 
 /// `set scissor X1 Y1 X2 Y2`
 fn push_scissor(text: &mut Vec<u8>, rect: &ClipRect) -> Result<(), AllocError>
     ensures { OnOk result (Adds text.old.items (line_bytes (codes "set" ∷ setting_words (Setting.Scissor (Some rect.now)))) text.new.items) }
 {
-    push_bytes(text, b"set")?;
-    push_word(text, b"scissor")?;
-    push_small(text, rect.x1)?;
-    push_small(text, rect.y1)?;
-    push_small(text, rect.x2)?;
-    push_small(text, rect.y2)?;
-    end_line(text)
+    let words = [
+        Word::Small(rect.x1),
+        Word::Small(rect.y1),
+        Word::Small(rect.x2),
+        Word::Small(rect.y2),
+    ];
+    push_line(text, b"set scissor", &words)
 }
 
 /// `set` and a setting
@@ -138,10 +132,8 @@ fn push_clear(text: &mut Vec<u8>, colour: Rgb, depth: u16) -> Result<(), AllocEr
     ensures text { OnOk result (Adds text.old.items (line_bytes (command_words (Command.Clear colour depth))) text.new.items) }
     ensures stored { OnOk result (IsStoredCommand (Command.Clear colour depth)) }
 {
-    push_bytes(text, b"clear")?;
-    push_colour(text, colour)?;
-    push_small(text, depth)?;
-    end_line(text)
+    let words = [Word::Colour(colour), Word::Small(depth)];
+    push_line(text, b"clear", &words)
 }
 
 /// The words of a corner, each behind a space.
@@ -149,12 +141,15 @@ fn push_corner(text: &mut Vec<u8>, vertex: &Vertex) -> Result<(), AllocError>
     ensures text { OnOk result ((more : List (List ℕ)) → Adds text.old.items (words_bytes (corner_words vertex.now more)) (text.new.items ++ words_bytes more)) }
     ensures stored { OnOk result (IsCorner vertex.now) }
 {
-    push_signed(text, vertex.x)?;
-    push_signed(text, vertex.y)?;
-    push_small(text, vertex.z)?;
-    push_colour_alpha(text, vertex.colour)?;
-    push_small(text, vertex.s)?;
-    push_small(text, vertex.t)
+    let words = [
+        Word::Signed(vertex.x),
+        Word::Signed(vertex.y),
+        Word::Small(vertex.z),
+        Word::ColourAlpha(vertex.colour),
+        Word::Small(vertex.s),
+        Word::Small(vertex.t),
+    ];
+    push_words(text, &words)
 }
 
 /// `triangle` and three corners

@@ -1,15 +1,35 @@
 //! The words of a printed line. A line is begun with its first word, further words are put behind a space each, and it is
 //! ended with a newline.
 
-ghost use Rattle.std.specs.Prelude.{◌≡◌, ◌++◌, ◌∷◌, [], ◌<◌, ◌≤◌, All, OnOk, decimal};
+ghost use Rattle.std.specs.Prelude.{◌≡◌, ◌++◌, ◌∷◌, [], ◌<◌, ◌≤◌, All, OnOk, decimal, map};
 ghost use Rattle.std.specs.Fmt.{signed_decimal};
 ghost use Rattle.std.specs.List.{flat_map};
-ghost use Rattle.dri_scene.specs.Stored.{IsColour, IsColourAlpha};
-ghost use Rattle.dri_scene.specs.Texts.{Adds, colour_alpha_word, colour_word, digit, hex};
+ghost use Rattle.dri_scene.specs.Stored.{IsColour, IsColourAlpha, IsStoredWord};
+ghost use Rattle.dri_scene.specs.Texts.{Adds, colour_alpha_word, colour_word, digit, format_word, hex, mapped_word, spaced, spelled};
+ghost use Rattle.dri_words.specs.Lines.{line_bytes};
 
-use dri_base::{Bytes, Rgb, Rgba};
+use dri_base::{Bytes, Rgb, Rgba, TexFormat};
 use itoa::Buffer;
 use std::alloc::AllocError;
+
+/// A word of a line, behind its first word.
+#[derive(Clone, Copy)]
+pub enum Word {
+    /// A number.
+    Number(u32),
+    /// A number of sixteen bits.
+    Small(u16),
+    /// A number of either sign.
+    Signed(i32),
+    /// `RRGGBB`
+    Colour(Rgb),
+    /// `RRGGBBAA`
+    ColourAlpha(Rgba),
+    /// `up` or `down`
+    Mapped(bool),
+    /// `l8` or `rgb565`
+    Format(TexFormat),
+}
 
 /// Puts bytes as they are: a line's first word, or a whole line.
 pub fn push_bytes(text: &mut Vec<u8>, bytes: &[u8]) -> Result<(), AllocError>
@@ -42,7 +62,7 @@ pub fn push_digits(text: &mut Vec<u8>, number: u32) -> Result<(), AllocError>
 }
 
 /// Puts a space and a number of sixteen bits.
-pub fn push_small(text: &mut Vec<u8>, number: u16) -> Result<(), AllocError>
+fn push_small(text: &mut Vec<u8>, number: u16) -> Result<(), AllocError>
     ensures text { OnOk result (Adds text.old.items (32 ∷ decimal number) text.new.items) }
     ensures stored { OnOk result (number < 65536) }
 {
@@ -51,7 +71,7 @@ pub fn push_small(text: &mut Vec<u8>, number: u16) -> Result<(), AllocError>
 }
 
 /// Puts a space and a number.
-pub fn push_number(text: &mut Vec<u8>, number: u32) -> Result<(), AllocError>
+fn push_number(text: &mut Vec<u8>, number: u32) -> Result<(), AllocError>
     ensures { OnOk result (Adds text.old.items (32 ∷ decimal number) text.new.items) }
 {
     let mut digits = Buffer::new();
@@ -59,7 +79,7 @@ pub fn push_number(text: &mut Vec<u8>, number: u32) -> Result<(), AllocError>
 }
 
 /// Puts a space and a number of either sign.
-pub fn push_signed(text: &mut Vec<u8>, number: i32) -> Result<(), AllocError>
+fn push_signed(text: &mut Vec<u8>, number: i32) -> Result<(), AllocError>
     ensures { OnOk result (Adds text.old.items (32 ∷ signed_decimal number) text.new.items) }
 {
     let mut digits = Buffer::new();
@@ -89,7 +109,7 @@ fn push_hex(text: &mut Vec<u8>, byte: u8) -> Result<(), AllocError>
 }
 
 /// Puts a space and a colour.
-pub fn push_colour(text: &mut Vec<u8>, colour: Rgb) -> Result<(), AllocError>
+fn push_colour(text: &mut Vec<u8>, colour: Rgb) -> Result<(), AllocError>
     ensures text { OnOk result (Adds text.old.items (32 ∷ colour_word colour) text.new.items) }
     ensures stored { OnOk result (IsColour colour) }
 {
@@ -100,7 +120,7 @@ pub fn push_colour(text: &mut Vec<u8>, colour: Rgb) -> Result<(), AllocError>
 }
 
 /// Puts a space and a colour with its alpha.
-pub fn push_colour_alpha(text: &mut Vec<u8>, colour: Rgba) -> Result<(), AllocError>
+fn push_colour_alpha(text: &mut Vec<u8>, colour: Rgba) -> Result<(), AllocError>
     ensures text { OnOk result (Adds text.old.items (32 ∷ colour_alpha_word colour) text.new.items) }
     ensures stored { OnOk result (IsColourAlpha colour) }
 {
@@ -121,4 +141,58 @@ pub fn push_image(text: &mut Vec<u8>, image: &Bytes) -> Result<(), AllocError>
         push_hex(text, *byte)?;
     }
     Ok(())
+}
+
+/// `up` or `down`
+fn mapped_word(mapped: bool) -> &'static [u8]
+    ensures { result.now ≡ mapped_word mapped }
+{
+    if mapped { b"up" } else { b"down" }
+}
+
+/// `l8` or `rgb565`
+fn format_word(format: TexFormat) -> &'static [u8]
+    ensures { result.now ≡ format_word format }
+{
+    match format {
+        TexFormat::L8 => b"l8",
+        TexFormat::Rgb565 => b"rgb565",
+    }
+}
+
+/// Puts a space and a word as it is spelled.
+fn push_spelled(text: &mut Vec<u8>, word: &Word) -> Result<(), AllocError>
+    ensures text { OnOk result (Adds text.old.items (spaced word.now) text.new.items) }
+    ensures stored { OnOk result (IsStoredWord word.now) }
+{
+    match word {
+        Word::Number(number) => push_number(text, *number),
+        Word::Small(number) => push_small(text, *number),
+        Word::Signed(number) => push_signed(text, *number),
+        Word::Colour(colour) => push_colour(text, *colour),
+        Word::ColourAlpha(colour) => push_colour_alpha(text, *colour),
+        Word::Mapped(mapped) => push_word(text, mapped_word(*mapped)),
+        Word::Format(format) => push_word(text, format_word(*format)),
+    }
+}
+
+/// Puts words, each behind a space.
+pub fn push_words(text: &mut Vec<u8>, words: &[Word]) -> Result<(), AllocError>
+    ensures text { OnOk result (Adds text.old.items (flat_map spaced words.now) text.new.items) }
+    ensures stored { OnOk result (All IsStoredWord words.now) }
+{
+    for word in words {
+        push_spelled(text, word)?;
+    }
+    Ok(())
+}
+
+/// Puts a line: its first words as they are, the words behind them, and a newline.
+pub fn push_line(text: &mut Vec<u8>, name: &[u8], words: &[Word]) -> Result<(), AllocError>
+    ensures text { OnOk result (Adds text.old.items (line_bytes (name.now ∷ map spelled words.now)) text.new.items) }
+    ensures stored { OnOk result (All IsStoredWord words.now) }
+{
+    push_bytes(text, name)?;
+    push_words(text, words)?;
+    end_line(text)
 }
