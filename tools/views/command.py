@@ -5,7 +5,7 @@ from __future__ import annotations
 import argparse
 import os
 import sys
-from typing import Callable
+from typing import Callable, Iterable
 
 from .course import Course, NotInScene, course_of
 from .journal import Entry, read_journal
@@ -70,6 +70,10 @@ def course_over(scene_path: str, journal_path: str) -> Course:
     except NotInScene as why:
         line = journal[why.number - 1].line
         raise Trouble(f"{journal_path}: line {line}: {why} (tools/why tells more)") from None
+
+
+def print_lines(lines: Iterable[str]) -> None:
+    print_text("".join(f"{it}\n" for it in lines))
 
 
 def print_text(text: str) -> None:

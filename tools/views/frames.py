@@ -50,21 +50,20 @@ def said_of(course: Course, frame: Frame, own: int, differing: int) -> str:
 
 def pair_of(program: Program, course: Course, frame: Frame) -> Pair:
     """Asks the program for a frame's two pictures, and compares them."""
-    alone = program.alone(course.scene, frame.client, frame.number)
+    alone = program.alone(course.scene, frame.client, frame.number, frame.window)
     screen = program.screen_after(course.scene, course.entries, frame.swap)
-    window, own, differing, shown, drawn = frame.window, 0, 0, [], []
-    for y in range(window.height):
-        shown.append([hatched(x, y) for x in range(window.width)])
-        drawn.append([alone.pixel(x, y) if x < alone.width and y < alone.height else hatched(x, y) for x in range(window.width)])
+    window, own, differing = frame.window, 0, 0
+    shown = [[hatched(x, y) for x in range(window.width)] for y in range(window.height)]
+    for y, row in enumerate(shown):
         for x in range(window.width):
             if frame.tops.at(window.x + x, window.y + y) == window.number:
                 pixel = screen.pixel(window.x + x, window.y + y)
-                is_equal = pixel == drawn[y][x]
+                is_equal = pixel == alone.pixel(x, y)
                 own, differing = own + 1, differing + (not is_equal)
-                shown[y][x] = pixel if is_equal else reddened(pixel)
+                row[x] = pixel if is_equal else reddened(pixel)
     if frame.stood and differing:
         raise Failed(f"frame {frame.number} of client {frame.client} stood, and {differing} of its {own} pixels differ")
-    return Pair(frame, picture_of(drawn), picture_of(shown), own, differing, said_of(course, frame, own, differing))
+    return Pair(frame, alone, picture_of(shown), own, differing, said_of(course, frame, own, differing))
 
 
 @dataclass(frozen=True)

@@ -11,7 +11,7 @@ from typing import Optional
 from .course import TAKES, Phase, Standing
 from .journal import SERVER, Entry, journal_text, read_journal
 from .pictures import Picture, read_ppm
-from .scene import Client, Command, Item, Scene
+from .scene import Client, Command, Item, Scene, Window
 
 TOP = os.path.dirname(os.path.dirname(os.path.dirname(os.path.realpath(__file__))))
 SECONDS = 600
@@ -98,6 +98,12 @@ class Program:
             return NotRead(int(found[1]), found[2])
         raise Failed(f"{self.path} check ended with {ended.status}: {ended.notes.strip()}")
 
+    def next_of(self, scene: Scene, entries: list[Entry], client: int) -> Entry:
+        """Returns what a client that holds the lock after these entries of a run does at its next turn."""
+        scene = stopped(scene, entries)
+        ended = self.done(["turns"], replace(scene, schedule=[*scene.schedule, Item(client)]).text())
+        return replace(read_journal(ended.notes)[len(entries)], line=0)
+
     def screen_after(self, scene: Scene, entries: list[Entry], count: int) -> Picture:
         """Returns what the screen shows after so many entries of a run: of a scene that goes no further."""
         ended = self.done(["turns"], stopped(scene, entries[:count]).text())
@@ -106,9 +112,10 @@ class Program:
             raise Failed(f"the first {count} entries can't be played again as they stand in the journal")
         return read_ppm(ended.picture)
 
-    def alone(self, scene: Scene, client: int, frame: int) -> Picture:
-        """Returns a client's frame drawn alone, with the sides that its window has in the scene."""
-        return read_ppm(self.done(["solo", str(client), str(frame)], scene.text()).picture)
+    def alone(self, scene: Scene, client: int, frame: int, window: Window) -> Picture:
+        """Returns a client's frame drawn alone, with the sides of its window as it is given."""
+        windows = [window if it.number == window.number else it for it in scene.windows]
+        return read_ppm(self.done(["solo", str(client), str(frame)], replace(scene, windows=windows).text()).picture)
 
 
 def told(entry: Entry) -> tuple[str, tuple[int, ...]]:
