@@ -2,7 +2,8 @@
 
 from __future__ import annotations
 
-from dataclasses import dataclass
+from dataclasses import dataclass, replace
+from typing import Iterator
 
 from .course import Course, Frame
 from .pictures import Picture, Pixel, picture_of
@@ -13,8 +14,8 @@ from .timeline import colour_of, name_of
 HATCHES: tuple[Pixel, Pixel] = ((226, 230, 234), (242, 244, 246))
 HATCH = 3
 RED: Pixel = (208, 52, 44)
-LEFT, HEAD, GAP, BETWEEN, TITLE, BELOW = 84, 66, 8, 26, 34, 22
-MOST_WIDTH, LARGE_SIDE, LARGEST_TIMES = 1180, 150, 4
+LEFT, HEAD, GAP, BETWEEN, ABOVE, BELOW = 84, 58, 8, 26, 22, 46
+LEAST_WIDTH, MOST_WIDTH, LARGE_SIDE, LARGEST_TIMES = 640, 1180, 160, 4
 SAID_SIZE = 10
 
 
@@ -28,7 +29,7 @@ class Pair:
     shown: Picture
     own: int
     differing: int
-    said: str
+    said: list[str]
 
 
 def hatched(x: int, y: int) -> Pixel:
@@ -40,12 +41,13 @@ def reddened(pixel: Pixel) -> Pixel:
     return red, green, blue
 
 
-def said_of(course: Course, frame: Frame, own: int, differing: int) -> str:
+def said_of(course: Course, frame: Frame, own: int, differing: int) -> list[str]:
+    """Returns how a frame came out, in one or two lines."""
     if frame.loss:
         entry = course.entries[frame.loss.entry - 1]
         cause = course.scene.changes[entry.numbers[0] - 1].line() if entry.kind == "change" else str(entry)
-        return f"entry {frame.loss.entry}, {cause}, took its stamp: {differing} of {own} differ"
-    return f"stood: all {own} pixels equal" if own else "stood: no pixel of its own"
+        return [f"entry {frame.loss.entry}, {cause}, took its stamp:", f"{differing} of {own} pixels differ"]
+    return [f"stood: all {own} pixels equal" if own else "stood: it had no pixel"]
 
 
 def pair_of(program: Program, course: Course, frame: Frame) -> Pair:
@@ -67,67 +69,78 @@ def pair_of(program: Program, course: Course, frame: Frame) -> Pair:
 
 
 @dataclass(frozen=True)
+class Row:
+    """A client's frames, or some of them, and what is said beside and behind them."""
+
+    client: int
+    notes: list[str]
+    pairs: list[Pair]
+    end: str
+
+
 class Sheet:
-    """The pairs, row by row, and for each row its client and how many of the client's frames aren't shown."""
+    """Draws the rows. All pairs take cells of one width, so that the frames of one number stand below each other."""
 
-    rows: list[tuple[int, int, list[Pair]]]
-    times: int
+    def __init__(self, rows: list[Row]):
+        pairs = [pair for row in rows for pair in row.pairs]
+        side = max((max(it.shown.width, it.shown.height) for it in pairs), default=1)
+        self.times = max(1, min(LARGEST_TIMES, LARGE_SIDE // side))
+        self.cell = max(map(self.width_of, pairs), default=0) + BETWEEN
+        self.each = max(1, int((MOST_WIDTH - LEFT) // self.cell))
+        self.rows = [line for row in rows for line in self.wrapped(row)]
 
-    def cell(self, pair: Pair) -> float:
+    def width_of(self, pair: Pair) -> float:
         """Returns how wide a pair is, with its words."""
         pictures = (pair.alone.width + pair.shown.width) * self.times + GAP
-        return max(pictures, width_of(f"frame {pair.frame.number}  {pair.said}", SAID_SIZE)) + BETWEEN
+        return max(pictures, *(width_of(it, SAID_SIZE) for it in pair.said))
+
+    def wrapped(self, row: Row) -> Iterator[Row]:
+        """Returns a row as rows that are no wider than the drawing."""
+        firsts = range(0, max(1, len(row.pairs)), self.each)
+        for first in firsts:
+            yield replace(row, pairs=row.pairs[first : first + self.each], end=row.end if first == firsts[-1] else "")
+
+    def height(self, row: Row) -> int:
+        return max((it.shown.height for it in row.pairs), default=0) * self.times + ABOVE + BELOW
 
     def draw(self) -> str:
-        lines = [(client, left, line) for client, left, pairs in self.rows for line in self.wrapped(pairs)]
-        height = HEAD + sum(self.height(line) for _, _, line in lines)
-        width = LEFT + max((sum(map(self.cell, line)) for _, _, line in lines), default=0)
-        svg, top = Svg(max(width, 640), height, "Frames drawn alone and on the screen"), HEAD
+        most = max((len(it.pairs) + bool(it.end) for it in self.rows), default=0)
+        svg = Svg(max(LEFT + most * self.cell, LEAST_WIDTH), HEAD + sum(map(self.height, self.rows)), "Frames drawn alone and on the screen")
         svg.text(16, 26, "Each frame drawn alone, and on the screen after its swap", 16, font_weight="bold")
         svg.text(16, 46, "hatched: pixels that other windows had then; red: pixels of its own that differ", 11, PALE)
-        for client, left, line in lines:
-            self.draw_line(svg, top, client, left, line)
-            top += self.height(line)
+        top = HEAD
+        for row in self.rows:
+            self.draw_row(svg, top, row)
+            top += self.height(row)
         return svg.done()
 
-    def wrapped(self, pairs: list[Pair]) -> list[list[Pair]]:
-        """Returns a client's pairs in lines that are no wider than the drawing."""
-        lines: list[list[Pair]] = [[]]
-        for pair in pairs:
-            if lines[-1] and LEFT + sum(map(self.cell, lines[-1])) + self.cell(pair) > MOST_WIDTH:
-                lines.append([])
-            lines[-1].append(pair)
-        return lines
-
-    def height(self, line: list[Pair]) -> int:
-        return max((it.shown.height for it in line), default=0) * self.times + TITLE + BELOW
-
-    def draw_line(self, svg: Svg, top: float, client: int, left: int, line: list[Pair]) -> None:
-        svg.text(16, top + 26, name_of(client), 13, colour_of(client), font_weight="bold")
-        notes = [f"window {line[0].frame.window.number}"] if line else ["no frame"]
-        notes += [f"{left} more"] if left else []
-        for at, note in enumerate(notes):
-            svg.text(16, top + 42 + 14 * at, note, 10, PALE)
-        x: float = LEFT
-        for pair in line:
-            self.draw_pair(svg, x, top, pair)
-            x += self.cell(pair)
+    def draw_row(self, svg: Svg, top: float, row: Row) -> None:
+        svg.text(16, top + 34, name_of(row.client), 13, colour_of(row.client), font_weight="bold")
+        for at, note in enumerate(row.notes):
+            svg.text(16, top + 50 + 14 * at, note, 10, PALE)
+        for at, pair in enumerate(row.pairs):
+            self.draw_pair(svg, LEFT + at * self.cell, top, pair)
+        svg.text(LEFT + len(row.pairs) * self.cell, top + 14, row.end, SAID_SIZE, PALE)
 
     def draw_pair(self, svg: Svg, x: float, top: float, pair: Pair) -> None:
         colour = GOOD if pair.frame.stood else BAD
-        name = f"frame {pair.frame.number}"
-        svg.text(x, top + 12, name, SAID_SIZE + 1, INK, font_weight="bold")
-        svg.text(x + width_of(name, SAID_SIZE + 1) + 8, top + 12, pair.said, SAID_SIZE, colour)
-        svg.picture(x + 1, top + 20, pair.alone.enlarged(self.times), PALE)
-        svg.picture(x + 1 + pair.alone.width * self.times + GAP, top + 20, pair.shown.enlarged(self.times), colour)
+        svg.text(x, top + 14, f"frame {pair.frame.number}", SAID_SIZE + 1, INK, font_weight="bold")
+        svg.picture(x + 1, top + 22, pair.alone.enlarged(self.times), PALE)
+        svg.picture(x + 1 + pair.alone.width * self.times + GAP, top + 22, pair.shown.enlarged(self.times), colour)
+        for at, line in enumerate(pair.said):
+            svg.text(x, top + 22 + pair.shown.height * self.times + 16 + 13 * at, line, SAID_SIZE, colour)
+
+
+def row_of(program: Program, course: Course, client: int, most: int) -> Row:
+    """Returns the first so many of a client's frames that begin with a clear."""
+    frames = [it for it in course.frames if it.client == client and it.clear]
+    notes = [f"window {course.window_of(client)}", *([f"{len(frames) - most} more"] if len(frames) > most else [])]
+    death = next((number for number, it in enumerate(course.entries, 1) if it.kind == "gone" and it.client == client), None)
+    begun = f"frame {course.left[client].number} had begun: " if course.left[client].clear else ""
+    end = f"{begun}the client died, entry {death}" if death else "" if frames else "no frame that begins with a clear"
+    return Row(client, notes, [pair_of(program, course, it) for it in frames[:most]], end)
 
 
 def draw_frames(program: Program, course: Course, most: int) -> str:
     """Returns the frames of a run as SVG, of each client those that begin with a clear, and the first so many of them."""
-    rows = []
-    for client in course.scene.clients:
-        frames = [it for it in course.frames if it.client == client and it.clear]
-        pairs = [pair_of(program, course, it) for it in frames[:most]]
-        rows.append((client, len(frames) - len(pairs), pairs))
-    side = max((max(it.shown.width, it.shown.height) for _, _, pairs in rows for it in pairs), default=1)
-    return Sheet(rows, max(1, min(LARGEST_TIMES, LARGE_SIDE // side))).draw()
+    return Sheet([row_of(program, course, client, most) for client in course.scene.clients]).draw()

@@ -8,6 +8,7 @@ from dataclasses import dataclass
 
 RGB = 3
 MOST_SIDE = 1024
+SIGNATURE = b"\x89PNG\r\n\x1a\n"
 Pixel = tuple[int, int, int]
 
 
@@ -64,7 +65,17 @@ def png(picture: Picture) -> bytes:
     """Returns the picture as a PNG of eight bits a channel, without filters."""
     header = struct.pack(">IIBBBBB", picture.width, picture.height, 8, 2, 0, 0, 0)
     image = zlib.compress(b"".join(b"\0" + row for row in picture.rows), 9)
-    return b"\x89PNG\r\n\x1a\n" + chunk(b"IHDR", header) + chunk(b"IDAT", image) + chunk(b"IEND", b"")
+    return SIGNATURE + chunk(b"IHDR", header) + chunk(b"IDAT", image) + chunk(b"IEND", b"")
+
+
+def read_png(data: bytes) -> bytes:
+    """Returns what a PNG as it is written here holds, whatever its compression: sides and rows."""
+    at, found = len(SIGNATURE), {b"IHDR": b"", b"IDAT": b""}
+    while at < len(data):
+        size, name = struct.unpack_from(">I4s", data, at)
+        found[name] = found.get(name, b"") + data[at + 8 : at + 8 + size]
+        at += size + 12
+    return found[b"IHDR"] + zlib.decompress(found[b"IDAT"])
 
 
 def sheet(pictures: list[Picture], columns: int, gap: int, ground: Pixel) -> Picture:
