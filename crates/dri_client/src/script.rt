@@ -8,6 +8,7 @@ ghost use Rattle.dri_client.specs.Steps.{is_last_of};
 ghost use Rattle.dri_client.specs.Textures.{shape_in};
 
 use dri_base::{ClientScript, TexShape, Texture};
+use dri_core::texture_in;
 
 /// The place of a client's script among the scene's, where the scene has the client.
 pub fn place_of(clients: &[ClientScript], number: u32) -> Option<usize>
@@ -27,12 +28,7 @@ pub fn place_of(clients: &[ClientScript], number: u32) -> Option<usize>
 pub(crate) fn shape_in(textures: &[Texture], number: u32) -> Option<TexShape>
     ensures { result ≡ shape_in textures.now number }
 {
-    for texture in textures {
-        if texture.number == number {
-            return Some(texture.shape);
-        }
-    }
-    None
+    Some(texture_in(textures, number)?.shape)
 }
 
 /// Whether a place is the last command's, or comes behind it.
