@@ -4,29 +4,25 @@ use Rattle.std.specs.Prelude.{ℤ, pos, ◌+ℤ◌, ◌≤ℤ◌, ◌&&◌, ◌|
 use Rattle.std.proofs.lemmas.Bool.{true≢false, and_parts}
 use Rattle.std.proofs.lemmas.Int.{ints}
 use Rattle.std.proofs.lemmas.List.{take_all}
+use Rattle.std.proofs.Math.Bool.{or-false, or_assoc}
 use Rattle.dri_base.specs.declared.scene.Window.{Window}
 use Rattle.dri_base.specs.declared.shape.Rect.{Rect}
 use Rattle.dri_base.specs.Ranges.{IsSide, WindowInRange}
+use Rattle.dri_rect.specs.Extents.{shared_by}
 use Rattle.dri_rect.specs.Pixels.{IsInRange, has_pixel, inside, least, most}
-use Rattle.dri_clips.specs.Areas.{greater, has_named, in_area, is_reached, lesser, meets, meets_window, named_in, share_pixel, shared}
+use Rattle.dri_rect.specs.Walk.{greater_of, lesser_of}
+use Rattle.dri_rect.proofs.Bounds.{shared_pixels}
+use Rattle.dri_clips.specs.Areas.{has_named, in_area, is_reached, meets, meets_window, named_in, share_pixel}
 use Rattle.dri_clips.specs.Boards.{is_mapped}
 use Rattle.dri_clips.specs.Mends.{is_met}
 use Rattle.dri_model.specs.Stacks.{window_in}
-use Rattle.dri_clips.specs.Layouts.{covers, screen_rect, window_rect}
-use Rattle.dri_clips.proofs.Lists.{has_share, share_has, shared_has}
+use Rattle.dri_clips.specs.Layouts.{has_place, screen_rect, window_rect}
+use Rattle.dri_clips.proofs.Lists.{has_share, share_has}
 use Rattle.dri_clips.proofs.Placing.{take_one}
-
-or_false : (b : Bool) → (b || false) ≡ b
-or_false true = refl
-or_false false = refl
-
-or_assoc : (a b c : Bool) → ((a || b) || c) ≡ (a || (b || c))
-or_assoc true b c = refl
-or_assoc false b c = refl
 
 -- rectangles met
 meets_append : (rs : List Rect) (s r : Rect) → meets (rs ++ s ∷ []) r ≡ (meets rs r || share_pixel s r)
-meets_append [] s r = or_false (share_pixel s r)
+meets_append [] s r = or-false (share_pixel s r)
 meets_append (q ∷ rs) s r = ap (λ b. share_pixel q r || b) (meets_append rs s r) ∙ sym (or_assoc (share_pixel q r) (meets rs r) (share_pixel s r))
 
 pub meets_more : (rs : List Rect) (i j : ℕ) (s r : Rect) → j ≡ i + 1 → slice_get rs i ≡ Some s → meets (take i rs) r ≡ false → share_pixel s r ≡ false → meets (take j rs) r ≡ false
@@ -45,14 +41,14 @@ pub meets_all : (rs : List Rect) (i : ℕ) (r : Rect) → length rs ≤ i → me
 meets_all rs i r far e = ap (λ (qs : List Rect). meets qs r) (sym (take_all i rs far)) ∙ e
 
 -- named windows, one after another
-named_append : (named : Window → Bool) (ws : List Window) (w : Window) (x y : ℤ) → has_named named (ws ++ w ∷ []) x y ≡ (has_named named ws x y || (named w && covers w x y))
-named_append named [] w x y = or_false (named w && covers w x y)
-named_append named (v ∷ ws) w x y = ap (λ b. (named v && covers v x y) || b) (named_append named ws w x y) ∙ sym (or_assoc (named v && covers v x y) (has_named named ws x y) (named w && covers w x y))
+named_append : (named : Window → Bool) (ws : List Window) (w : Window) (x y : ℤ) → has_named named (ws ++ w ∷ []) x y ≡ (has_named named ws x y || (named w && has_place w x y))
+named_append named [] w x y = or-false (named w && has_place w x y)
+named_append named (v ∷ ws) w x y = ap (λ b. (named v && has_place v x y) || b) (named_append named ws w x y) ∙ sym (or_assoc (named v && has_place v x y) (has_named named ws x y) (named w && has_place w x y))
 
-pub added : (named : Bool) (screen both : Rect) (w : Window) (area rect next : List Rect) → named ≡ true → w.mapped ≡ true → both ≡ shared screen (window_rect w) → ((x y : ℤ) → inside rect x y ≡ has_pixel both x y) → ((x y : ℤ) → inside next x y ≡ (inside area x y || inside rect x y)) →
-    (x y : ℤ) → inside next x y ≡ (inside area x y || (has_pixel screen x y && (named && covers w x y)))
+pub added : (named : Bool) (screen both : Rect) (w : Window) (area rect next : List Rect) → named ≡ true → w.mapped ≡ true → both ≡ shared_by screen (window_rect w) → ((x y : ℤ) → inside rect x y ≡ has_pixel both x y) → ((x y : ℤ) → inside next x y ≡ (inside area x y || inside rect x y)) →
+    (x y : ℤ) → inside next x y ≡ (inside area x y || (has_pixel screen x y && (named && has_place w x y)))
 added named screen both w area rect next n m e f g x y =
-    g x y ∙ ap (λ b. inside area x y || b) (f x y ∙ ap (λ (r : Rect). has_pixel r x y) e ∙ shared_has screen (window_rect w) x y ∙ (λ i. has_pixel screen x y && (sym n i && (sym m i && has_pixel (window_rect w) x y))))
+    g x y ∙ ap (λ b. inside area x y || b) (f x y ∙ ap (λ (r : Rect). has_pixel r x y) e ∙ shared_pixels screen (window_rect w) x y ∙ (λ i. has_pixel screen x y && (sym n i && (sym m i && has_pixel (window_rect w) x y))))
 
 spread : (a s h g : Bool) → ((a || (s && h)) || (s && g)) ≡ (a || (s && (h || g)))
 spread true s h g = refl
@@ -70,10 +66,10 @@ both_named named screen old new none area next e first second x y =
 
 pub named_more : (named : Window → Bool) (screen : Rect) (ws : List Window) (i j : ℕ) (w : Window) (first area next : List Rect) → j ≡ i + 1 → slice_get ws i ≡ Some w →
     ((x y : ℤ) → inside area x y ≡ (inside first x y || (has_pixel screen x y && has_named named (take i ws) x y))) →
-    ((x y : ℤ) → inside next x y ≡ (inside area x y || (has_pixel screen x y && (named w && covers w x y)))) →
+    ((x y : ℤ) → inside next x y ≡ (inside area x y || (has_pixel screen x y && (named w && has_place w x y)))) →
     (x y : ℤ) → inside next x y ≡ (inside first x y || (has_pixel screen x y && has_named named (take j ws) x y))
 named_more named screen ws i j w first area next e at before now x y =
-    now x y ∙ ap (λ b. b || (has_pixel screen x y && (named w && covers w x y))) (before x y) ∙ spread (inside first x y) (has_pixel screen x y) (has_named named (take i ws) x y) (named w && covers w x y)
+    now x y ∙ ap (λ b. b || (has_pixel screen x y && (named w && has_place w x y))) (before x y) ∙ spread (inside first x y) (has_pixel screen x y) (has_named named (take i ws) x y) (named w && has_place w x y)
     ∙ ap (λ b. inside first x y || (has_pixel screen x y && b)) (sym (named_append named (take i ws) w x y) ∙ ap (λ (us : List Window). has_named named us x y) (sym (take_one ws i j w e at)))
 
 -- and how many there are
@@ -114,13 +110,13 @@ pub cost_all : (p : Window → Bool) (ws : List Window) (i k start after : ℕ) 
 cost_all p ws i k start after was = let d = count_take p ws i in let e : k * length (filter p (take i ws)) ≤ k * length (filter p ws) = grind (arith, mul-le-mul_left) in omega (arith, e, was)
 
 -- what a window shares with the screen is in range
-greater_range : (a b l m : ℤ) → l ≤ℤ a → a ≤ℤ m → b ≤ℤ m → (l ≤ℤ greater a b) × (greater a b ≤ℤ m)
+greater_range : (a b l m : ℤ) → l ≤ℤ a → a ≤ℤ m → b ≤ℤ m → (l ≤ℤ greater_of a b) × (greater_of a b ≤ℤ m)
 greater_range a b l m e f g = (grind (arith, ints), grind (arith, ints))
 
-lesser_range : (a b l m : ℤ) → l ≤ℤ a → a ≤ℤ m → l ≤ℤ b → (l ≤ℤ lesser a b) × (lesser a b ≤ℤ m)
+lesser_range : (a b l m : ℤ) → l ≤ℤ a → a ≤ℤ m → l ≤ℤ b → (l ≤ℤ lesser_of a b) × (lesser_of a b ≤ℤ m)
 lesser_range a b l m e f g = (grind (arith, ints), grind (arith, ints))
 
-pub shared_range : (screen : Rect) (w : Window) → IsInRange screen → WindowInRange w → IsInRange (shared screen (window_rect w))
+pub shared_range : (screen : Rect) (w : Window) → IsInRange screen → WindowInRange w → IsInRange (shared_by screen (window_rect w))
 shared_range screen w s r = record {
   left = greater_range screen.x1 w.x least most s.left.0 s.left.1 (omega (arith, ints, r.left));
   top = greater_range screen.y1 w.y least most s.top.0 s.top.1 (omega (arith, ints, r.top));
@@ -151,7 +147,7 @@ meets_place (s ∷ ss) r e = by (share_pixel s r) refl e (λ h. meets_place ss r
     later false b c f = f
 
     by : (b : Bool) → share_pixel s r ≡ b → (b || meets ss r) ≡ true → (meets ss r ≡ true → (x : ℤ) × ((y : ℤ) × ((inside ss x y && has_pixel r x y) ≡ true))) → (x : ℤ) × ((y : ℤ) × ((inside (s ∷ ss) x y && has_pixel r x y) ≡ true))
-    by true f g more = ((shared s r).x1, ((shared s r).y1, both (has_pixel s (shared s r).x1 (shared s r).y1) (inside ss (shared s r).x1 (shared s r).y1) (has_pixel r (shared s r).x1 (shared s r).y1) (share_has s r f)))
+    by true f g more = ((shared_by s r).x1, ((shared_by s r).y1, both (has_pixel s (shared_by s r).x1 (shared_by s r).y1) (inside ss (shared_by s r).x1 (shared_by s r).y1) (has_pixel r (shared_by s r).x1 (shared_by s r).y1) (share_has s r f)))
     by false f g more = let p = more g in (p.0, (p.1.0, later (has_pixel s p.0 p.1.0) (inside ss p.0 p.1.0) (has_pixel r p.0 p.1.0) p.1.1))
 
 named_meets : (named : Window → Bool) (ws : List Window) (r : Rect) (x y : ℤ) → has_named named ws x y ≡ true → has_pixel r x y ≡ true → meets_window (named_in named ws) r ≡ true
@@ -179,7 +175,7 @@ or_true : (a b : Bool) → (a || b) ≡ true → (a ≡ true) ⊎ (b ≡ true)
 or_true true b e = inl refl
 or_true false b e = inr e
 
-pub met_reached : (width height : ℕ) (named : Window → Bool) (old new : List Window) (area : List Rect) → ((x y : ℤ) → inside area x y ≡ in_area width height named old new x y) → (w : Window) → is_met named area w ≡ true → is_reached named old new w ≡ true
+met_reached : (width height : ℕ) (named : Window → Bool) (old new : List Window) (area : List Rect) → ((x y : ℤ) → inside area x y ≡ in_area width height named old new x y) → (w : Window) → is_met named area w ≡ true → is_reached named old new w ≡ true
 met_reached width height named old new area area_is w e =
     let p = and_parts w.mapped (named w || meets area (window_rect w)) e in
     let q : (named w || (meets_window (named_in named old) (window_rect w) || meets_window (named_in named new) (window_rect w))) ≡ true = elim (or_true (named w) (meets area (window_rect w)) p.1) [
@@ -197,6 +193,11 @@ met_reached width height named old new area area_is w e =
           | inl a ↦ ap (λ b. b || meets_window (named_in named new) (window_rect w)) (named_meets named old (window_rect w) r.0 r.1.0 a s.1)
           | inr a ↦ or_right (meets_window (named_in named old) (window_rect w)) (meets_window (named_in named new) (window_rect w)) (named_meets named new (window_rect w) r.0 r.1.0 a s.1)
         ]
+
+pub met_after : (width height : ℕ) (named : Window → Bool) (old new : List Window) (area : List Rect) → ((x y : ℤ) → inside area x y ≡ in_area width height named old new x y) → (w : Window) → is_met named area w ≡ true → (w.mapped && is_reached named old new w) ≡ true
+met_after width height named old new area area_is w e =
+    let p = and_parts w.mapped (named w || meets area (window_rect w)) e in
+    (λ i. p.0 i && met_reached width height named old new area area_is w e i)
 
 -- what is counted by one test is counted by a weaker one
 pub count_weaker : (p q : Window → Bool) → ((w : Window) → p w ≡ true → q w ≡ true) → (ws : List Window) → length (filter p ws) ≤ length (filter q ws)

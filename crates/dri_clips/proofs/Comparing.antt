@@ -111,7 +111,7 @@ same_clips width height n old new was is r a b canonical tells = decided r (same
 pub stands_untouched : (width height n : ℕ) (old new : List Window) → Stands width height old new n → false ≡ is_touched width height old new n
 stands_untouched width height n old new is =
     let sets : same_set width height (clips width height old n) (clips width height new n) ≡ true = sets_same width height (clips width height old n) (clips width height new n) (λ x y a b. sym (is.clips (pos x) (pos y))) in
-    let corners : same_origin (origin old n) (origin new n) ≡ true = subst (λ (o : ℤ × ℤ). same_origin (origin old n) o ≡ true) (sym is.corner) (own (origin old n)) in
+    let corners : same_origin (origin old n) (origin new n) ≡ true = subst (λ (o : ℤ × ℤ). same_origin (origin old n) o ≡ true) (sym is.unmoved) (own (origin old n)) in
     rw (sets, corners) refl
   where
     own : (o : ℤ × ℤ) → same_origin o o ≡ true

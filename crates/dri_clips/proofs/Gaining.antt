@@ -6,7 +6,6 @@ use Rattle.std.proofs.lemmas.Bool.{true≢false, and_parts, lt-ltb}
 use Rattle.std.proofs.lemmas.Int.{ints}
 use Rattle.std.proofs.lemmas.List.{take_all}
 use Rattle.std.proofs.lemmas.List.Elements.{All-append}
-use Rattle.std.proofs.lemmas.Option.{same_Some}
 use Rattle.dri_base.specs.declared.colour.Rgb.{Rgb}
 use Rattle.dri_base.specs.declared.scene.Window.{Window}
 use Rattle.dri_base.specs.declared.shape.Rect.{Rect}
@@ -94,8 +93,8 @@ window_paints root width height old new k j w rs ps qs next distinct here gain a
     on : AreOnScreen width height rs
     on = gain_on width height old new w.number rs gain
 
-    covers : ℕ → ℕ → Bool
-    covers x y = w.mapped && window_has w x y
+    has_place : ℕ → ℕ → Bool
+    has_place x y = w.mapped && window_has w x y
 
     pixel : (x y : ℕ) → x < width → y < height → inside rs (pos x) (pos y) ≡ (is_window w.number (top new x y) && not (is_window w.number (top old x y)))
     pixel x y a b = gain (pos x) (pos y) ∙ (λ i. shows_pixel width height new w.number x y a b i && not (shows_pixel width height old w.number x y a b i))

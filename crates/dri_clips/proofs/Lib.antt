@@ -1,10 +1,15 @@
-pub mod Areas
-pub mod Comparing
-pub mod Gaining
-pub mod Lists
-pub mod Painting
+-- stacks: places, the topmost window, and changes
 pub mod Placing
-pub mod Restacking
-pub mod Stamping
-pub mod Telling
 pub mod Walking
+pub mod Restacking
+-- the area, and the lists that are mended in it
+pub mod Areas
+pub mod Lists
+-- what a change touches, and its stamps
+pub mod Comparing
+pub mod Stamping
+-- paints
+pub mod Painting
+pub mod Gaining
+-- the board, and what it tells
+pub mod Telling

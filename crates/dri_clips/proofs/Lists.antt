@@ -1,30 +1,33 @@
 -- A new stack changes nothing outside its area; so mended lists are the lists.
 use Rattle.std.proofs.Common.{◌≡◌, ℕ, zero, suc, ◌<◌, ◌≤◌, ◌+◌, length, get_or, set, take, replicate, List, [], ◌∷◌, ◌++◌, Bool, true, false, cond, arith, refl, sym, ◌∙◌, ap, subst, Option, None, Some, slice_get, filter, is_none, is_some, inl, inr}
-use Rattle.std.specs.Prelude.{ℤ, ◌&&◌, ◌||◌, ◌==◌, ◌⊎◌, int_le, int_lt, not, All}
-use Rattle.std.proofs.lemmas.Bool.{true≢false, eqb-true, eqb-false, cases_eq}
+use Rattle.std.specs.Prelude.{ℤ, ◌&&◌, ◌||◌, ◌==◌, ◌⊎◌, int_lt, not, All}
+use Rattle.std.proofs.lemmas.Bool.{true≢false, and_parts, eqb-true, eqb-false, cases_eq}
 use Rattle.std.proofs.lemmas.Int.{ints}
 use Rattle.std.proofs.lemmas.List.{length-set, get_or-set_same, get_or-set_other, get_or_append_left, get_or_default, length-append, take_all}
+use Rattle.std.proofs.Math.Bool.{and-false, and-true, and_assoc, or-false}
 use Rattle.dri_base.specs.declared.scene.Window.{Window}
 use Rattle.dri_base.specs.declared.shape.Rect.{Rect}
 use Rattle.dri_base.specs.Ranges.{IsSide, WindowInRange}
+use Rattle.dri_rect.specs.Extents.{shared_by}
 use Rattle.dri_rect.specs.Pixels.{has_pixel, inside}
+use Rattle.dri_rect.proofs.Bounds.{shared_pixels}
 use Rattle.dri_model.specs.Stacks.{is_window}
 use Rattle.dri_clips.specs.declared.layout.Layout.{Layout}
 use Rattle.dri_clips.specs.declared.mending.Mended.{Mended}
 use Rattle.dri_clips.specs.declared.mending.Patch.{Patch}
-use Rattle.dri_clips.specs.Areas.{greater, has_named, in_area, lesser, meets, others, share_pixel, shared}
+use Rattle.dri_clips.specs.Areas.{has_named, in_area, meets, others, share_pixel}
 use Rattle.dri_clips.specs.Boards.{shows}
-use Rattle.dri_clips.specs.Layouts.{AreDistinct, IsAbsent, IsLayout, covers, screen_rect, top_at, window_rect}
-use Rattle.dri_clips.specs.Mends.{AreMended, IsBare, IsLeft, IsMended, IsNew, IsNewList, IsPatch, IsWalk, Stands, is_met, list_or}
+use Rattle.dri_clips.specs.Layouts.{AreDistinct, IsAbsent, IsLayout, has_place, screen_rect, top_at, window_rect}
+use Rattle.dri_clips.specs.Mends.{AreMended, IsBare, IsLeft, IsMended, IsNew, IsNewList, IsPartList, IsPatch, IsWalk, KeepsPart, Stands, is_met, list_or}
 use Rattle.dri_clips.proofs.Placing.{origin_absent, origin_at, placed_here}
 use Rattle.dri_clips.proofs.Walking.{differs, left_more, never_top, shown, top_place}
 
 -- where no named window is, the named ones can be left out
 top_others : (named : Window → Bool) (ws : List Window) (x y : ℤ) → has_named named ws x y ≡ false → top_at ws x y ≡ top_at (others named ws) x y
 top_others named [] x y e = refl
-top_others named (w ∷ ws) x y e = by (named w) (covers w x y) refl refl (top_others named ws x y)
+top_others named (w ∷ ws) x y e = by (named w) (has_place w x y) refl refl (top_others named ws x y)
   where
-    by : (a b : Bool) → named w ≡ a → covers w x y ≡ b → (has_named named ws x y ≡ false → top_at ws x y ≡ top_at (others named ws) x y) → top_at (w ∷ ws) x y ≡ top_at (others named (w ∷ ws)) x y
+    by : (a b : Bool) → named w ≡ a → has_place w x y ≡ b → (has_named named ws x y ≡ false → top_at ws x y ≡ top_at (others named ws) x y) → top_at (w ∷ ws) x y ≡ top_at (others named (w ∷ ws)) x y
     by true true p q more = absurd (true≢false (rw (p, q) at e))
     by true false p q more = rw (p, q) (more (rw (p, q) at e))
     by false true p q more = rw p (rw q refl)
@@ -65,24 +68,6 @@ was_there named old new k w same e h =
     from_filter (λ v. not (named v)) old r.0 w (ap (λ (ws : List Window). slice_get ws r.0) same ∙ r.1)
 
 -- rectangles that share a pixel
-le_greater : (a b z : ℤ) → int_le (greater a b) z ≡ (int_le a z && int_le b z)
-le_greater a b z = grind (arith, ints)
-
-lt_lesser : (a b z : ℤ) → int_lt z (lesser a b) ≡ (int_lt z a && int_lt z b)
-lt_lesser a b z = grind (arith, ints)
-
-middle : (a b c d : Bool) → ((a && b) && (c && d)) ≡ ((a && c) && (b && d))
-middle true true c d = refl
-middle true false true d = refl
-middle true false false d = refl
-middle false b c d = refl
-
-pub shared_has : (a b : Rect) (x y : ℤ) → has_pixel (shared a b) x y ≡ (has_pixel a x y && has_pixel b x y)
-shared_has a b x y =
-    (λ i. (le_greater a.y1 b.y1 y i && lt_lesser a.y2 b.y2 y i) && (le_greater a.x1 b.x1 x i && lt_lesser a.x2 b.x2 x i))
-    ∙ (λ i. middle (int_le a.y1 y) (int_le b.y1 y) (int_lt y a.y2) (int_lt y b.y2) i && middle (int_le a.x1 x) (int_le b.x1 x) (int_lt x a.x2) (int_lt x b.x2) i)
-    ∙ middle (int_le a.y1 y && int_lt y a.y2) (int_le b.y1 y && int_lt y b.y2) (int_le a.x1 x && int_lt x a.x2) (int_le b.x1 x && int_lt x b.x2)
-
 some_pixel : (r : Rect) (x y : ℤ) → has_pixel r x y ≡ true → (int_lt r.x1 r.x2 && int_lt r.y1 r.y2) ≡ true
 some_pixel r x y e = grind (arith, ints)
 
@@ -90,10 +75,10 @@ first_pixel : (r : Rect) → (int_lt r.x1 r.x2 && int_lt r.y1 r.y2) ≡ true →
 first_pixel r e = grind (arith, ints)
 
 pub has_share : (a b : Rect) (x y : ℤ) → has_pixel a x y ≡ true → has_pixel b x y ≡ true → share_pixel a b ≡ true
-has_share a b x y e f = some_pixel (shared a b) x y (shared_has a b x y ∙ (λ i. e i && f i))
+has_share a b x y e f = some_pixel (shared_by a b) x y (shared_pixels a b x y ∙ (λ i. e i && f i))
 
-pub share_has : (a b : Rect) → share_pixel a b ≡ true → (has_pixel a (shared a b).x1 (shared a b).y1 && has_pixel b (shared a b).x1 (shared a b).y1) ≡ true
-share_has a b e = sym (shared_has a b (shared a b).x1 (shared a b).y1) ∙ first_pixel (shared a b) e
+pub share_has : (a b : Rect) → share_pixel a b ≡ true → (has_pixel a (shared_by a b).x1 (shared_by a b).y1 && has_pixel b (shared_by a b).x1 (shared_by a b).y1) ≡ true
+share_has a b e = sym (shared_pixels a b (shared_by a b).x1 (shared_by a b).y1) ∙ first_pixel (shared_by a b) e
 
 meets_has : (rs : List Rect) (r : Rect) (x y : ℤ) → inside rs x y ≡ true → has_pixel r x y ≡ true → meets rs r ≡ true
 meets_has [] r x y e f = absurd (true≢false (sym e))
@@ -108,27 +93,20 @@ meets_has (s ∷ ss) r x y e f = by (has_pixel s x y) refl e (λ h. meets_has ss
     by false g h more = or (share_pixel s r) (more h)
 
 -- a window that isn't named or met has nothing of the area
-apart_area : (named : Window → Bool) (area : List Rect) (w : Window) → named w ≡ false → is_met named area w ≡ false → (x y : ℤ) → inside area x y ≡ true → covers w x y ≡ false
+apart_area : (named : Window → Bool) (area : List Rect) (w : Window) → named w ≡ false → is_met named area w ≡ false → (x y : ℤ) → inside area x y ≡ true → has_place w x y ≡ false
 apart_area named area w n m x y e = by w.mapped (has_pixel (window_rect w) x y) refl refl
   where
-    by : (a b : Bool) → w.mapped ≡ a → has_pixel (window_rect w) x y ≡ b → covers w x y ≡ false
+    by : (a b : Bool) → w.mapped ≡ a → has_pixel (window_rect w) x y ≡ b → has_place w x y ≡ false
     by false b p q = ap (λ a. a && has_pixel (window_rect w) x y) p
     by true false p q = (λ i. p i && q i)
     by true true p q = absurd (true≢false (sym ((λ i. p i && (n i || meets area (window_rect w))) ∙ meets_has area (window_rect w) x y e q) ∙ m))
 
-and_all : (b : Bool) → b ≡ (b && true)
-and_all true = refl
-and_all false = refl
-
-pub left_bare : (left : List Rect) (w : Window) → w.mapped ≡ false → (x y : ℤ) → inside left x y ≡ (inside left x y && not (covers w x y))
-left_bare left w m x y = and_all (inside left x y) ∙ ap (λ a. inside left x y && not (a && has_pixel (window_rect w) x y)) (sym m)
-
-pub left_kept : (named : Window → Bool) (area left : List Rect) (w : Window) → ((x y : ℤ) → inside left x y ≡ true → inside area x y ≡ true) → named w ≡ false → is_met named area w ≡ false → (x y : ℤ) → inside left x y ≡ (inside left x y && not (covers w x y))
+pub left_kept : (named : Window → Bool) (area left : List Rect) (w : Window) → ((x y : ℤ) → inside left x y ≡ true → inside area x y ≡ true) → named w ≡ false → is_met named area w ≡ false → (x y : ℤ) → inside left x y ≡ (inside left x y && not (has_place w x y))
 left_kept named area left w within n m x y = by (inside left x y) refl
   where
-    by : (b : Bool) → inside left x y ≡ b → inside left x y ≡ (inside left x y && not (covers w x y))
-    by true e = and_all (inside left x y) ∙ ap (λ c. inside left x y && not c) (sym (apart_area named area w n m x y (within x y e)))
-    by false e = e ∙ sym (ap (λ b. b && not (covers w x y)) e)
+    by : (b : Bool) → inside left x y ≡ b → inside left x y ≡ (inside left x y && not (has_place w x y))
+    by true e = sym (and-true (inside left x y)) ∙ ap (λ c. inside left x y && not c) (sym (apart_area named area w n m x y (within x y e)))
+    by false e = e ∙ sym (ap (λ b. b && not (has_place w x y)) e)
 
 -- one pixel: s is the screen, h the area, w and v whether it was and is on top, n whether nothing is above it, and c whether it is covered
 pixel_clips : (s h w v n c : Bool) → (h ≡ false → w ≡ v) → v ≡ (n && c) → (((s && w) && not (s && h)) || (((s && h) && n) && c)) ≡ (s && v)
@@ -148,31 +126,27 @@ pixel_gained true false w false n c f g = refl
 met_list : (width height : ℕ) (named : Window → Bool) (old new : List Window) (area left was : List Rect) (k : ℕ) (w : Window) (p : Patch) →
     others named old ≡ others named new → AreDistinct new → slice_get new k ≡ Some w →
     ((x y : ℤ) → inside area x y ≡ in_area width height named old new x y) → IsLeft width height named old new area k left → ((x y : ℤ) → inside was x y ≡ shows width height old w.number x y) →
-    IsPatch was area (λ x y. inside left x y && covers w x y) p → IsNew width height old new w.number p
+    IsPatch was area (λ x y. inside left x y && has_place w x y) p → IsNew width height old new w.number p
 met_list width height named old new area left was k w p same apart here area_is left_is was_is patch = record {
-  clips = λ x y. patch.clips x y ∙ (λ i. (old_is x y i && not (area_is x y i)) || (part_is x y i)) ∙ pixel_clips (has_pixel (screen_rect width height) x y) (has_named named old x y || has_named named new x y) (is_window w.number (top_at old x y)) (is_window w.number (top_at new x y)) (is_none (top_at (take k new) x y)) (covers w x y) (far x y) (top_place new k w apart here x y) ∙ shown width height new w.number x y;
-  gained = λ x y. patch.gained x y ∙ (λ i. part_is x y i && not (old_is x y i)) ∙ pixel_gained (has_pixel (screen_rect width height) x y) (has_named named old x y || has_named named new x y) (is_window w.number (top_at old x y)) (is_window w.number (top_at new x y)) (is_none (top_at (take k new) x y)) (covers w x y) (far x y) (top_place new k w apart here x y)
+  clips = λ x y. patch.clips x y ∙ (λ i. (old_is x y i && not (area_is x y i)) || (part_is x y i)) ∙ pixel_clips (has_pixel (screen_rect width height) x y) (has_named named old x y || has_named named new x y) (is_window w.number (top_at old x y)) (is_window w.number (top_at new x y)) (is_none (top_at (take k new) x y)) (has_place w x y) (far x y) (top_place new k w apart here x y) ∙ shown width height new w.number x y;
+  gained = λ x y. patch.gained x y ∙ (λ i. part_is x y i && not (old_is x y i)) ∙ pixel_gained (has_pixel (screen_rect width height) x y) (has_named named old x y || has_named named new x y) (is_window w.number (top_at old x y)) (is_window w.number (top_at new x y)) (is_none (top_at (take k new) x y)) (has_place w x y) (far x y) (top_place new k w apart here x y)
       ∙ (λ i. shown width height new w.number x y i && not (shown width height old w.number x y i));
 }
   where
     old_is : (x y : ℤ) → inside was x y ≡ (has_pixel (screen_rect width height) x y && is_window w.number (top_at old x y))
     old_is x y = was_is x y ∙ sym (shown width height old w.number x y)
 
-    part_is : (x y : ℤ) → (inside left x y && covers w x y) ≡ ((in_area width height named old new x y && is_none (top_at (take k new) x y)) && covers w x y)
-    part_is x y = ap (λ b. b && covers w x y) (left_is x y ∙ ap (λ b. b && is_none (top_at (take k new) x y)) (area_is x y))
+    part_is : (x y : ℤ) → (inside left x y && has_place w x y) ≡ ((in_area width height named old new x y && is_none (top_at (take k new) x y)) && has_place w x y)
+    part_is x y = ap (λ b. b && has_place w x y) (left_is x y ∙ ap (λ b. b && is_none (top_at (take k new) x y)) (area_is x y))
 
     far : (x y : ℤ) → (has_named named old x y || has_named named new x y) ≡ false → is_window w.number (top_at old x y) ≡ is_window w.number (top_at new x y)
     far x y e = ap (is_window w.number) (beyond named old new same x y e)
 
 -- the list of a window that isn't mapped
-and_none : (b : Bool) → (b && false) ≡ false
-and_none true = refl
-and_none false = refl
-
 unmapped_shows : (width height : ℕ) (new : List Window) (k : ℕ) (w : Window) → AreDistinct new → slice_get new k ≡ Some w → w.mapped ≡ false → (x y : ℤ) → shows width height new w.number x y ≡ false
 unmapped_shows width height new k w apart here m x y =
-    let c : covers w x y ≡ false = rw m refl in
-    sym (shown width height new w.number x y) ∙ ap (λ b. has_pixel (screen_rect width height) x y && b) (top_place new k w apart here x y ∙ ap (λ b. is_none (top_at (take k new) x y) && b) c ∙ and_none (is_none (top_at (take k new) x y))) ∙ and_none (has_pixel (screen_rect width height) x y)
+    let c : has_place w x y ≡ false = rw m refl in
+    sym (shown width height new w.number x y) ∙ ap (λ b. has_pixel (screen_rect width height) x y && b) (top_place new k w apart here x y ∙ ap (λ b. is_none (top_at (take k new) x y) && b) c ∙ and-false (is_none (top_at (take k new) x y))) ∙ and-false (has_pixel (screen_rect width height) x y)
 
 bare_list : (width height : ℕ) (old new : List Window) (k : ℕ) (w : Window) (p : Patch) → AreDistinct new → slice_get new k ≡ Some w → IsBare w p → IsNew width height old new w.number p
 bare_list width height old new k w p apart here bare = record {
@@ -183,40 +157,94 @@ bare_list width height old new k w p apart here bare = record {
     none : (x y : ℤ) → shows width height new w.number x y ≡ false
     none x y = unmapped_shows width height new k w apart here bare.unmapped x y
 
+-- a window that isn't named, and is on top where it was, stands
+stands_so : (width height : ℕ) (named : Window → Bool) (old new : List Window) (k : ℕ) (w : Window) →
+    others named old ≡ others named new → AreDistinct old → AreDistinct new → slice_get new k ≡ Some w → named w ≡ false →
+    ((x y : ℤ) → (has_pixel (screen_rect width height) x y && is_window w.number (top_at new x y)) ≡ (has_pixel (screen_rect width height) x y && is_window w.number (top_at old x y))) → Stands width height old new w.number
+stands_so width height named old new k w same before apart here n pixel =
+    let r = was_there named old new k w same here n in
+    record {
+      clips = λ x y. sym (shown width height new w.number x y) ∙ pixel x y ∙ shown width height old w.number x y;
+      unmoved = origin_at w.number k new w (placed_here new k w apart here) here ∙ sym (origin_at w.number r.0 old w (placed_here old r.0 w before r.1) r.1);
+    }
+
 -- the list of a window that isn't named or met
 kept_list : (width height : ℕ) (named : Window → Bool) (old new : List Window) (area : List Rect) (k : ℕ) (w : Window) →
     others named old ≡ others named new → AreDistinct old → AreDistinct new → slice_get new k ≡ Some w →
     ((x y : ℤ) → inside area x y ≡ in_area width height named old new x y) → named w ≡ false → is_met named area w ≡ false → Stands width height old new w.number
 kept_list width height named old new area k w same before apart here area_is n m =
     let r = was_there named old new k w same here n in
-    record {
-      clips = λ x y. sym (shown width height new w.number x y) ∙ pixel r.0 r.1 x y (has_pixel (screen_rect width height) x y) (has_named named old x y || has_named named new x y) refl refl ∙ shown width height old w.number x y;
-      corner = origin_at w.number k new w (placed_here new k w apart here) here ∙ sym (origin_at w.number r.0 old w (placed_here old r.0 w before r.1) r.1);
-    }
+    stands_so width height named old new k w same before apart here n (λ x y. pixel r.0 r.1 x y (has_pixel (screen_rect width height) x y) (has_named named old x y || has_named named new x y) refl refl)
   where
-    hidden : (ws : List Window) (i : ℕ) → AreDistinct ws → slice_get ws i ≡ Some w → (x y : ℤ) → covers w x y ≡ false → is_window w.number (top_at ws x y) ≡ false
-    hidden ws i a e x y c = top_place ws i w a e x y ∙ ap (λ b. is_none (top_at (take i ws) x y) && b) c ∙ and_none (is_none (top_at (take i ws) x y))
+    hidden : (ws : List Window) (i : ℕ) → AreDistinct ws → slice_get ws i ≡ Some w → (x y : ℤ) → has_place w x y ≡ false → is_window w.number (top_at ws x y) ≡ false
+    hidden ws i a e x y c = top_place ws i w a e x y ∙ ap (λ b. is_none (top_at (take i ws) x y) && b) c ∙ and-false (is_none (top_at (take i ws) x y))
 
     pixel : (j : ℕ) → slice_get old j ≡ Some w → (x y : ℤ) (s h : Bool) → has_pixel (screen_rect width height) x y ≡ s → (has_named named old x y || has_named named new x y) ≡ h → (has_pixel (screen_rect width height) x y && is_window w.number (top_at new x y)) ≡ (has_pixel (screen_rect width height) x y && is_window w.number (top_at old x y))
     pixel j e x y false h p q = rw p refl
     pixel j e x y true false p q = ap (λ b. has_pixel (screen_rect width height) x y && b) (ap (is_window w.number) (sym (beyond named old new same x y q)))
     pixel j e x y true true p q =
-        let c : covers w x y ≡ false = apart_area named area w n m x y (area_is x y ∙ both p q) in
+        let c : has_place w x y ≡ false = apart_area named area w n m x y (area_is x y ∙ both p q) in
         ap (λ b. has_pixel (screen_rect width height) x y && b) (hidden new k apart here x y c ∙ sym (hidden old j before e x y c))
       where
         both : has_pixel (screen_rect width height) x y ≡ true → (has_named named old x y || has_named named new x y) ≡ true → in_area width height named old new x y ≡ true
         both f g = rw (f, g) refl
+
+-- the list of a window that has its part of the area already
+part_clips : (s h w v n c : Bool) → (h ≡ false → w ≡ v) → v ≡ (n && c) → ((s && w) && (s && h)) ≡ (((s && h) && n) && c) → (s && v) ≡ (s && w)
+part_clips false h w v n c f g e = refl
+part_clips true false w v n c f g e = sym (f refl)
+part_clips true true true v n c f g e = g ∙ sym e
+part_clips true true false v n c f g e = g ∙ sym e
+
+part_list : (width height : ℕ) (named : Window → Bool) (old new : List Window) (area left was : List Rect) (k : ℕ) (w : Window) →
+    others named old ≡ others named new → AreDistinct old → AreDistinct new → slice_get new k ≡ Some w →
+    ((x y : ℤ) → inside area x y ≡ in_area width height named old new x y) → IsLeft width height named old new area k left → ((x y : ℤ) → inside was x y ≡ shows width height old w.number x y) →
+    named w ≡ false → KeepsPart was area (λ x y. inside left x y && has_place w x y) → Stands width height old new w.number
+part_list width height named old new area left was k w same before apart here area_is left_is was_is n keeps = stands_so width height named old new k w same before apart here n (λ x y.
+    part_clips (has_pixel (screen_rect width height) x y) (has_named named old x y || has_named named new x y) (is_window w.number (top_at old x y)) (is_window w.number (top_at new x y)) (is_none (top_at (take k new) x y)) (has_place w x y)
+    (λ e. ap (is_window w.number) (beyond named old new same x y e)) (top_place new k w apart here x y) (sym (old_is x y) ∙ keeps x y ∙ part_is x y))
+  where
+    old_is : (x y : ℤ) → (inside was x y && inside area x y) ≡ ((has_pixel (screen_rect width height) x y && is_window w.number (top_at old x y)) && in_area width height named old new x y)
+    old_is x y = λ i. (was_is x y ∙ sym (shown width height old w.number x y)) i && area_is x y i
+
+    part_is : (x y : ℤ) → (inside left x y && has_place w x y) ≡ ((in_area width height named old new x y && is_none (top_at (take k new) x y)) && has_place w x y)
+    part_is x y = ap (λ b. b && has_place w x y) (left_is x y ∙ ap (λ b. b && is_none (top_at (take k new) x y)) (area_is x y))
 
 -- the list of any window
 pub new_list : (width height : ℕ) (named : Window → Bool) (old new : List Window) (area left was : List Rect) (k : ℕ) (w : Window) (o : Option Patch) →
     others named old ≡ others named new → AreDistinct old → AreDistinct new → slice_get new k ≡ Some w →
     ((x y : ℤ) → inside area x y ≡ in_area width height named old new x y) → IsLeft width height named old new area k left → ((x y : ℤ) → inside was x y ≡ shows width height old w.number x y) →
     IsNewList named area left was w o → IsMended width height old new w.number o
-new_list width height named old new area left was k w None same before apart here area_is left_is was_is list = kept_list width height named old new area k w same before apart here area_is list.0 list.1
+new_list width height named old new area left was k w None same before apart here area_is left_is was_is list = elim list.1 [
+  | inl unmet ↦ kept_list width height named old new area k w same before apart here area_is list.0 unmet
+  | inr keeps ↦ part_list width height named old new area left was k w same before apart here area_is left_is was_is list.0 keeps
+]
 new_list width height named old new area left was k w (Some p) same before apart here area_is left_is was_is list = elim list [
   | inl patch ↦ met_list width height named old new area left was k w p same apart here area_is left_is was_is patch
   | inr bare ↦ bare_list width height old new k w p apart here bare
 ]
+
+-- a part that is taken of what is left
+pub part_given : (named : Window → Bool) (b : Bool) (area left old part : List Rect) (w : Window) (o : Option Patch) → b ≡ named w → is_met named area w ≡ true → ((x y : ℤ) → inside part x y ≡ (inside left x y && has_pixel (window_rect w) x y)) →
+    IsPartList b area old (inside part) o → IsNewList named area left old w o
+part_given named b area left old part w o e met part_is list = by o list
+  where
+    is : (x y : ℤ) → inside part x y ≡ (inside left x y && has_place w x y)
+    is x y = part_is x y ∙ ap (λ m. inside left x y && (m && has_pixel (window_rect w) x y)) (sym (and_parts w.mapped (named w || meets area (window_rect w)) met).0)
+
+    by : (q : Option Patch) → IsPartList b area old (inside part) q → IsNewList named area left old w q
+    by None l = (sym e ∙ l.0, inr (λ x y. l.1 x y ∙ is x y))
+    by (Some p) l = inl (record {
+      clips = λ x y. l.clips x y ∙ ap (λ k. (inside old x y && not (inside area x y)) || k) (is x y);
+      gained = λ x y. l.gained x y ∙ ap (λ k. k && not (inside old x y)) (is x y);
+    })
+
+pub unmet_bare : (named : Window → Bool) (area left old : List Rect) (w : Window) (p : Patch) → named w ≡ true → is_met named area w ≡ false → p.clips ≡ [] → p.gained ≡ [] → IsNewList named area left old w (Some p)
+unmet_bare named area left old w p n m e f = inr (record { unmapped = by w.mapped refl; clips = e; gained = f })
+  where
+    by : (b : Bool) → w.mapped ≡ b → w.mapped ≡ false
+    by false h = h
+    by true h = absurd (true≢false ((λ i. sym h i && (sym n i || meets area (window_rect w))) ∙ m))
 
 -- the walk, window by window
 get_replicate : {X : Type 0} (m n : ℕ) (x : X) → get_or (replicate m x) n x ≡ x
@@ -227,7 +255,7 @@ get_replicate (suc m) (suc n) x = get_replicate m n x
 pub walk_none : (width height : ℕ) (named : Window → Bool) (old new : List Window) (area left : List Rect) (lists : List (Option Patch)) → left ≡ area → lists ≡ replicate 65 None → IsWalk width height named old new area 0 left lists
 walk_none width height named old new area left lists e f = record {
   room = ap length f;
-  left_is = λ x y. ap (λ (rs : List Rect). inside rs x y) e ∙ and_all (inside area x y);
+  left_is = λ x y. ap (λ (rs : List Rect). inside rs x y) e ∙ sym (and-true (inside area x y));
   made = λ i w b g. absurd (omega arith);
   none = λ n a. ap (λ (os : List (Option Patch)). get_or os n None) f ∙ get_replicate 65 n None;
 }
@@ -243,18 +271,14 @@ same_some v w o e f = let g : Some v ≡ Some w = sym e ∙ f in cc
 
 pub walk_more : (width height : ℕ) (named : Window → Bool) (old new : List Window) (area left next : List Rect) (lists made : List (Option Patch)) (k j : ℕ) (w : Window) (o : Option Patch) →
     j ≡ k + 1 → AreDistinct new → slice_get new k ≡ Some w → w.number < 65 → IsWalk width height named old new area k left lists → IsMended width height old new w.number o →
-    ((x y : ℤ) → inside next x y ≡ (inside left x y && not (covers w x y))) → made ≡ set lists w.number o → IsWalk width height named old new area j next made
+    ((x y : ℤ) → inside next x y ≡ (inside left x y && not (has_place w x y))) → made ≡ set lists w.number o → IsWalk width height named old new area j next made
 walk_more width height named old new area left next lists made k j w o e apart here below walk list next_is made_is = subst (λ (m : ℕ). IsWalk width height named old new area m next made) (let s : suc k ≡ j = omega arith in s) (record {
   room = ap length made_is ∙ length-set lists w.number o ∙ walk.room;
-  left_is = λ x y. next_is x y ∙ ap (λ b. b && not (covers w x y)) (walk.left_is x y) ∙ regroup (inside area x y) (is_none (top_at (take k new) x y)) (not (covers w x y)) ∙ ap (λ b. inside area x y && b) (sym (left_more new k w here x y));
+  left_is = λ x y. next_is x y ∙ ap (λ b. b && not (has_place w x y)) (walk.left_is x y) ∙ and_assoc (inside area x y) (is_none (top_at (take k new) x y)) (not (has_place w x y)) ∙ ap (λ b. inside area x y && b) (sym (left_more new k w here x y));
   made = each;
   none = λ n a. ap (λ (os : List (Option Patch)). get_or os n None) made_is ∙ get_or-set_other lists w.number n o None (λ f. eqb-false w.number n (differs n new k w a here) (sym f)) ∙ walk.none n a;
 })
   where
-    regroup : (a b c : Bool) → ((a && b) && c) ≡ (a && (b && c))
-    regroup true b c = refl
-    regroup false b c = refl
-
     each : (i : ℕ) (v : Window) → i < suc k → slice_get new i ≡ Some v → IsMended width height old new v.number (get_or made v.number None)
     each i v b f = rw made_is (elim (cases_eq i k) [
       | inl same ↦
@@ -291,7 +315,7 @@ root_gained true false false = refl
 root_gained false a l = refl
 
 no_window : (width height n : ℕ) (ws : List Window) → IsAbsent n ws → (x y : ℤ) → shows width height ws n x y ≡ false
-no_window width height n ws a x y = sym (shown width height ws n x y) ∙ ap (λ b. has_pixel (screen_rect width height) x y && b) (never_top n ws a x y) ∙ and_none (has_pixel (screen_rect width height) x y)
+no_window width height n ws a x y = sym (shown width height ws n x y) ∙ ap (λ b. has_pixel (screen_rect width height) x y && b) (never_top n ws a x y) ∙ and-false (has_pixel (screen_rect width height) x y)
 
 -- the walk is over
 pub walk_done : (l : Layout) (named : Window → Bool) (new : List Window) (area left : List Rect) (k : ℕ) (m : Mended) →
@@ -303,7 +327,7 @@ walk_done l named new area left k m far is apart same absent area_is walk root =
   lists = λ n b. elim (place_or_absent n new) [
     | inl a ↦ subst (λ (o : Option Patch). IsMended l.width l.height l.stack new n o) (sym (walk.none n a)) (record {
       clips = λ x y. no_window l.width l.height n new a x y ∙ sym (no_window l.width l.height n l.stack (absent n a) x y);
-      corner = origin_absent n new a ∙ sym (origin_absent n l.stack (absent n a));
+      unmoved = origin_absent n new a ∙ sym (origin_absent n l.stack (absent n a));
     })
     | inr r ↦ subst (λ (i : ℕ). IsMended l.width l.height l.stack new i (get_or m.windows.items i None)) r.1.1.1 (walk.made r.0 r.1.0 (below r.0 r.1.0 r.1.1.0) r.1.1.0)
   ];
@@ -408,7 +432,7 @@ bare_layout l wide high e f g = record {
   apart = subst AreDistinct (sym e) tt;
   room = ap length f;
   clips = λ n b x y. ap (λ (cs : List (List Rect)). inside (get_or cs n []) x y) f ∙ ap (λ (rs : List Rect). inside rs x y) (get_replicate 65 n []) ∙ sym (no_window l.width l.height n l.stack (subst (IsAbsent n) (sym e) tt) x y);
-  free = λ x y. g x y ∙ and_all (has_pixel (screen_rect l.width l.height) x y) ∙ ap (λ (ws : List Window). has_pixel (screen_rect l.width l.height) x y && is_none (top_at ws x y)) (sym e);
+  free = λ x y. g x y ∙ sym (and-true (has_pixel (screen_rect l.width l.height) x y)) ∙ ap (λ (ws : List Window). has_pixel (screen_rect l.width l.height) x y && is_none (top_at ws x y)) (sym e);
 }
 
 pub all_named : (ws : List Window) → others (λ w. true) ws ≡ []
@@ -418,10 +442,6 @@ all_named (w ∷ ws) = all_named ws
 -- a list that only loses pixels
 pub no_part : (old area part kept gained : List Rect) → part ≡ [] → gained ≡ [] → ((x y : ℤ) → inside kept x y ≡ (inside old x y && not (inside area x y))) → IsPatch old area (inside part) (record { clips = kept; gained = gained })
 no_part old area part kept gained e f g = record {
-  clips = λ x y. g x y ∙ sym (or_none (inside old x y && not (inside area x y))) ∙ ap (λ (rs : List Rect). (inside old x y && not (inside area x y)) || inside rs x y) (sym e);
+  clips = λ x y. g x y ∙ sym (or-false (inside old x y && not (inside area x y))) ∙ ap (λ (rs : List Rect). (inside old x y && not (inside area x y)) || inside rs x y) (sym e);
   gained = λ x y. ap (λ (rs : List Rect). inside rs x y) f ∙ ap (λ (rs : List Rect). inside rs x y && not (inside old x y)) (sym e);
 }
-  where
-    or_none : (b : Bool) → (b || false) ≡ b
-    or_none true = refl
-    or_none false = refl

@@ -7,6 +7,7 @@ use Rattle.std.proofs.lemmas.Int.{ints}
 use Rattle.std.proofs.lemmas.List.{append_assoc, map-append, get_or_append_left, get_or-append_right, length-append, length-map, get_or-map}
 use Rattle.dri_base.specs.declared.shape.ClipRect.{ClipRect}
 use Rattle.std.proofs.lemmas.List.Elements.{All-map}
+use Rattle.std.proofs.Math.Bool.{and_comm}
 use Rattle.dri_base.specs.declared.colour.Rgb.{Rgb}
 use Rattle.dri_base.specs.declared.scene.Window.{Window}
 use Rattle.dri_base.specs.declared.shape.Rect.{Rect}
@@ -38,17 +39,11 @@ abs_le : (a : ℤ) (n : ℕ) → pos 0 ≤ℤ a → a ≤ℤ pos n → unsigned_
 abs_le (pos a) n h l = omega (arith, ints, l)
 abs_le (negsuc a) n h l = absurd (omega (arith, ints, h))
 
-both_swapped : (a b : Bool) → (a && b) ≡ (b && a)
-both_swapped true true = refl
-both_swapped true false = refl
-both_swapped false true = refl
-both_swapped false false = refl
-
 clip_has : (width height : ℕ) (r : Rect) → IsRectOnScreen width height r → (x y : ℕ) → in_rect (clip_rect r) x y ≡ has_pixel r (pos x) (pos y)
 clip_has width height r o x y =
     let right : pos 0 ≤ℤ r.x2 = omega (arith, ints, o.left, o.start) in
     let low : pos 0 ≤ℤ r.y2 = omega (arith, ints, o.top, o.head) in
-    rw (le_abs r.x1 x o.left, lt_abs r.x2 x right, le_abs r.y1 y o.top, lt_abs r.y2 y low) (both_swapped (int_le r.x1 (pos x) && int_lt (pos x) r.x2) (int_le r.y1 (pos y) && int_lt (pos y) r.y2))
+    rw (le_abs r.x1 x o.left, lt_abs r.x2 x right, le_abs r.y1 y o.top, lt_abs r.y2 y low) (and_comm (int_le r.x1 (pos x) && int_lt (pos x) r.x2) (int_le r.y1 (pos y) && int_lt (pos y) r.y2))
 
 -- rectangles of a region on the screen
 member : (rs : List Rect) (i : ℕ) (r : Rect) (x y : ℤ) → slice_get rs i ≡ Some r → has_pixel r x y ≡ true → inside rs x y ≡ true
@@ -152,7 +147,7 @@ painted_at (p ∷ ps) (suc i) d x y b h = by (in_rect p.rect x y) (painted_at ps
     by true e = refl
     by false e = e
 
--- the window at a place is on top just where it covers a pixel that no window above it covers
+-- the window at a place is on top just where it has_place a pixel that no window above it has_place
 pub top_at_place : (ws : List Window) (k : ℕ) (w : Window) → AreDistinct ws → slice_get ws k ≡ Some w → (x y : ℕ) → is_window w.number (top ws x y) ≡ (is_none (top (take k ws) x y) && (w.mapped && window_has w x y))
 top_at_place [] k w a e x y = absurd (true≢false (ap (λ o. is_some o) (sym e)))
 top_at_place (v ∷ ws) zero w a e x y = let same : v ≡ w = cc in subst (λ (u : Window). is_window u.number (top (v ∷ ws) x y) ≡ (u.mapped && window_has u x y)) same (by (v.mapped && window_has v x y) (ap (is_window v.number) (sym (top_pixel ws x y)) ∙ never_top v.number ws a.0 (pos x) (pos y)))

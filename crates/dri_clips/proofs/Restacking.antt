@@ -13,11 +13,12 @@ use Rattle.dri_base.specs.declared.command.Change.{Change}
 use Rattle.dri_base.specs.declared.command.Change.TheVariants.{Map, Unmap, Move, Resize, Raise, Lower}
 use Rattle.dri_base.specs.Scenes.{named_by}
 use Rattle.dri_model.specs.Stacks.{Refusal, altered, changed, refusal, refused_at, refused_for, stack_after, unless_refused, window_in, without_owner, unmapped}
-use Rattle.dri_clips.specs.Areas.{is_reached, meets_window, named_in, others, reached}
+use Rattle.dri_clips.specs.Areas.{is_reached, meets_window, named_in, others, reached, reached_after}
 use Rattle.dri_clips.specs.Boards.{is_mapped}
 use Rattle.dri_clips.specs.Mends.{mending_cost}
 use Rattle.dri_clips.specs.Layouts.{AreDistinct, IsAbsent, IsPlaced, SameNumbers, window_rect}
 use Rattle.dri_clips.specs.Refusals.{altered_by, destination}
+use Rattle.dri_clips.proofs.Areas.{count_weaker}
 use Rattle.dri_clips.proofs.Placing.{placed_below, placed_here, window_at, window_absent}
 
 -- where no window has the number nothing is altered, kept or left out
@@ -355,19 +356,30 @@ dead_unmapped c (w ∷ ws) = by (w.owner == c) refl ∙ dead_unmapped c ws
         ap (λ b. length (cond b (unmapped c w ∷ named_in (λ v. v.owner == c) (without_owner c ws)) (named_in (λ v. v.owner == c) (without_owner c ws)))) ((λ i. (both ∙ e) i && m i))
     by false e = ap (λ b. length (cond (b && (unmapped c w).mapped) (unmapped c w ∷ named_in (λ v. v.owner == c) (without_owner c ws)) (named_in (λ v. v.owner == c) (without_owner c ws)))) (both ∙ e)
 
-count_map : (p q : Window → Bool) (g : Window → Window) (ws : List Window) → ((k : ℕ) (w : Window) → slice_get ws k ≡ Some w → p w ≡ true → q (g w) ≡ true) → length (filter p ws) ≤ length (filter q (map g ws))
-count_map p q g [] f = omega arith
-count_map p q g (w ∷ ws) f = by (p w) (q (g w)) refl refl (count_map p q g ws (λ k v e h. f (suc k) v e h))
+-- what is mapped after a death is counted beside what it unmaps
+count_both : (p q r : Window → Bool) (g : Window → Window) (ws : List Window) → ((k : ℕ) (w : Window) → slice_get ws k ≡ Some w → p w ≡ true → q (g w) ≡ true) → ((w : Window) → r w ≡ true → q w ≡ true) → ((w : Window) → p w ≡ true → r (g w) ≡ false) →
+    length (filter p ws) + length (filter r (map g ws)) ≤ length (filter q (map g ws))
+count_both p q r g [] f h e = omega arith
+count_both p q r g (w ∷ ws) f h e = by (p w) (q (g w)) (r (g w)) refl refl refl (count_both p q r g ws (λ k v a b. f (suc k) v a b) h e)
   where
-    by : (a b : Bool) → p w ≡ a → q (g w) ≡ b → length (filter p ws) ≤ length (filter q (map g ws)) → length (cond a (w ∷ filter p ws) (filter p ws)) ≤ length (cond b (g w ∷ filter q (map g ws)) (filter q (map g ws)))
-    by true true d e less = omega (arith, less)
-    by true false d e less = absurd (true≢false (sym (f 0 w refl d) ∙ e))
-    by false true d e less = omega (arith, less)
-    by false false d e less = less
+    by : (a b c : Bool) → p w ≡ a → q (g w) ≡ b → r (g w) ≡ c → length (filter p ws) + length (filter r (map g ws)) ≤ length (filter q (map g ws)) →
+        length (cond a (w ∷ filter p ws) (filter p ws)) + length (cond c (g w ∷ filter r (map g ws)) (filter r (map g ws))) ≤ length (cond b (g w ∷ filter q (map g ws)) (filter q (map g ws)))
+    by true b true i j k less = absurd (true≢false (sym k ∙ e w i))
+    by true true false i j k less = omega (arith, less)
+    by true false false i j k less = absurd (true≢false (sym (f 0 w refl i) ∙ j))
+    by false true true i j k less = omega (arith, less)
+    by false false true i j k less = absurd (true≢false (sym (h (g w) k) ∙ j))
+    by false true false i j k less = omega (arith, less)
+    by false false false i j k less = less
 
-pub dead_reached : (c : ℕ) (ws : List Window) → AreDistinct ws → length (named_in (λ w. w.owner == c) ws) ≤ reached (λ w. w.owner == c) ws (without_owner c ws)
-dead_reached c ws apart = count_map (λ w. (w.owner == c) && w.mapped) (is_reached (λ w. w.owner == c) ws (without_owner c ws)) (unmapped c) ws each
+dead_reached : (c : ℕ) (ws : List Window) → AreDistinct ws → length (named_in (λ w. w.owner == c) ws) + reached_after (λ w. w.owner == c) ws (without_owner c ws) ≤ reached (λ w. w.owner == c) ws (without_owner c ws)
+dead_reached c ws apart = count_both (λ w. (w.owner == c) && w.mapped) (is_reached (λ w. w.owner == c) ws (without_owner c ws)) (λ w. w.mapped && is_reached (λ v. v.owner == c) ws (without_owner c ws) w) (unmapped c) ws each
+    (λ w e. (and_parts w.mapped (is_reached (λ v. v.owner == c) ws (without_owner c ws) w) e).1)
+    (λ w e. ap (λ b. b && is_reached (λ v. v.owner == c) ws (without_owner c ws) (unmapped c w)) (gone_now w (and_parts (w.owner == c) w.mapped e).0))
   where
+    gone_now : (w : Window) → (w.owner == c) ≡ true → (unmapped c w).mapped ≡ false
+    gone_now w e = ap (λ b. (if b then record w { mapped = false } else w).mapped) e
+
     or_left : (a b : Bool) → a ≡ true → (a || b) ≡ true
     or_left a b e = ap (λ t. t || b) e
 
@@ -379,9 +391,12 @@ dead_reached c ws apart = count_map (λ w. (w.owner == c) && w.mapped) (is_reach
         let owned : ((unmapped c w).owner == c) ≡ true = ap (λ (j : ℕ). j == c) (unmapped_owner c w) ∙ p.0 in
         (λ i. or_left (is_mapped (window_in ws (unmapped c w).number)) (unmapped c w).mapped was i && or_left ((unmapped c w).owner == c) (meets_window (named_in (λ v. v.owner == c) ws) (window_rect (unmapped c w)) || meets_window (named_in (λ v. v.owner == c) (without_owner c ws)) (window_rect (unmapped c w))) owned i)
 
+after_reached : (named : Window → Bool) (old new : List Window) → reached_after named old new ≤ reached named old new
+after_reached named old new = count_weaker (λ w. w.mapped && is_reached named old new w) (is_reached named old new) (λ w e. (and_parts w.mapped (is_reached named old new w) e).1) new
+
 -- what a change costs, and what a death
 pub change_cost : (n : ℕ) (old new : List Window) (start after : ℕ) → AreDistinct old → AreDistinct new → after ≤ start + mending_cost (λ w. w.number == n) old new → after ≤ start + (8 * reached (λ w. w.number == n) old new + 16)
-change_cost n old new start after a b e = let f = one_named n old a in let g = one_named n new b in omega (arith, e, f, g)
+change_cost n old new start after a b e = let f = one_named n old a in let g = one_named n new b in let h = after_reached (λ w. w.number == n) old new in omega (arith, e, f, g, h)
 
 pub death_cost : (c : ℕ) (old : List Window) (start after : ℕ) → AreDistinct old → after ≤ start + mending_cost (λ w. w.owner == c) old (without_owner c old) → after ≤ start + (8 * reached (λ w. w.owner == c) old (without_owner c old) + 16)
 death_cost c old start after a e = let f = dead_reached c old a in let g = dead_unmapped c old in omega (arith, e, f, g)

@@ -1,30 +1,20 @@
 -- The area in which a new stack may change what shows, and how many windows it reaches.
-use Rattle.std.specs.Prelude.{ℕ, ℤ, List, [], ◌∷◌, Bool, true, false, ◌&&◌, ◌||◌, not, ◌==◌, filter, length, int_lt, if◌then◌else◌}
+use Rattle.std.specs.Prelude.{ℕ, ℤ, List, [], ◌∷◌, Bool, true, false, ◌&&◌, ◌||◌, not, ◌==◌, filter, length, int_lt}
 use Rattle.dri_base.specs.declared.command.Change.{Change}
 use Rattle.dri_base.specs.declared.scene.Window.{Window}
 use Rattle.dri_base.specs.declared.shape.Rect.{Rect}
+use Rattle.dri_rect.specs.Extents.{shared_by}
 use Rattle.dri_rect.specs.Pixels.{has_pixel}
 use Rattle.dri_base.specs.Scenes.{named_by}
 use Rattle.dri_model.specs.Stacks.{window_in}
 use Rattle.dri_clips.specs.declared.cause.Cause.{Cause}
 use Rattle.dri_clips.specs.declared.cause.Cause.TheVariants as Cause_is
 use Rattle.dri_clips.specs.Boards.{is_mapped}
-use Rattle.dri_clips.specs.Layouts.{covers, screen_rect, window_rect}
-
--- the greater and the lesser of two numbers
-abbrev pub greater : ℤ → ℤ → ℤ
-greater a b = if int_lt a b then b else a
-
-abbrev pub lesser : ℤ → ℤ → ℤ
-lesser a b = if int_lt a b then a else b
-
--- the pixels that two rectangles share, as a rectangle
-abbrev pub shared : Rect → Rect → Rect
-shared a b = record { x1 = greater a.x1 b.x1; y1 = greater a.y1 b.y1; x2 = lesser a.x2 b.x2; y2 = lesser a.y2 b.y2 }
+use Rattle.dri_clips.specs.Layouts.{has_place, screen_rect, window_rect}
 
 -- the two rectangles share a pixel
 abbrev pub share_pixel : Rect → Rect → Bool
-share_pixel a b = int_lt (shared a b).x1 (shared a b).x2 && int_lt (shared a b).y1 (shared a b).y2
+share_pixel a b = int_lt (shared_by a b).x1 (shared_by a b).x2 && int_lt (shared_by a b).y1 (shared_by a b).y2
 
 -- one of the rectangles shares a pixel with this one
 abbrev pub meets : List Rect → Rect → Bool
@@ -48,7 +38,7 @@ abbrev pub meets_window : List Window → Rect → Bool
 meets_window [] r = false
 meets_window (w ∷ ws) r = share_pixel (window_rect w) r || meets_window ws r
 
--- the window is mapped before or after, and it is named or shares a pixel with an old or a new rectangle of a named window
+-- the window is mapped before or after, and it is named, or shares a pixel with the old rectangle of a named window that was mapped, or with the new one of one that is mapped
 abbrev pub is_reached : (Window → Bool) → List Window → List Window → Window → Bool
 is_reached named old new w =
     (is_mapped (window_in old w.number) || w.mapped) && (named w || (meets_window (named_in named old) (window_rect w) || meets_window (named_in named new) (window_rect w)))
@@ -56,6 +46,10 @@ is_reached named old new w =
 -- how many windows a new stack reaches
 abbrev pub reached : (Window → Bool) → List Window → List Window → ℕ
 reached named old new = length (filter (is_reached named old new) new)
+
+-- and how many of them are mapped under it
+abbrev pub reached_after : (Window → Bool) → List Window → List Window → ℕ
+reached_after named old new = length (filter (λ w. w.mapped && is_reached named old new w) new)
 
 -- the windows that a cause names
 abbrev pub names : Cause → Window → Bool
@@ -70,7 +64,7 @@ others named ws = filter (λ w. not (named w)) ws
 -- a mapped window of the stack that is named has the place
 abbrev pub has_named : (Window → Bool) → List Window → ℤ → ℤ → Bool
 has_named named [] x y = false
-has_named named (w ∷ ws) x y = (named w && covers w x y) || has_named named ws x y
+has_named named (w ∷ ws) x y = (named w && has_place w x y) || has_named named ws x y
 
 -- the place is on the screen, and in an old or a new rectangle of a named window
 abbrev pub in_area : ℕ → ℕ → (Window → Bool) → List Window → List Window → ℤ → ℤ → Bool

@@ -19,8 +19,8 @@ abbrev pub screen_rect : ℕ → ℕ → Rect
 screen_rect width height = record { x1 = pos 0; y1 = pos 0; x2 = pos width; y2 = pos height }
 
 -- the window is mapped and has the place
-abbrev pub covers : Window → ℤ → ℤ → Bool
-covers w x y = w.mapped && has_pixel (window_rect w) x y
+abbrev pub has_place : Window → ℤ → ℤ → Bool
+has_place w x y = w.mapped && has_pixel (window_rect w) x y
 
 -- no window has the number
 abbrev pub IsAbsent : ℕ → List Window → Type 0
@@ -44,7 +44,7 @@ SameNumbers old new = (n : ℕ) → (IsAbsent n old → IsAbsent n new) × (IsAb
 -- the topmost window at a place, which may lie off the screen
 abbrev pub top_at : List Window → ℤ → ℤ → Option Window
 top_at [] x y = None
-top_at (w ∷ ws) x y = if covers w x y then Some w else top_at ws x y
+top_at (w ∷ ws) x y = if has_place w x y then Some w else top_at ws x y
 
 -- each window number's region has the pixels at which that window shows, and the free region those of no window
 pub record IsLayout (l : Layout) : Type 0 where

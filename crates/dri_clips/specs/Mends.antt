@@ -7,9 +7,9 @@ use Rattle.dri_model.specs.Stacks.{origin}
 use Rattle.dri_clips.specs.declared.layout.Layout.{Layout}
 use Rattle.dri_clips.specs.declared.mending.Mended.{Mended}
 use Rattle.dri_clips.specs.declared.mending.Patch.{Patch}
-use Rattle.dri_clips.specs.Areas.{meets, named_in, reached}
+use Rattle.dri_clips.specs.Areas.{meets, named_in, reached_after}
 use Rattle.dri_clips.specs.Boards.{shows}
-use Rattle.dri_clips.specs.Layouts.{AreDistinct, IsAbsent, covers, screen_rect, top_at, window_rect}
+use Rattle.dri_clips.specs.Layouts.{AreDistinct, IsAbsent, has_place, screen_rect, top_at, window_rect}
 
 -- the list's pixels of the area become this part
 pub record IsPatch (old area : List Rect) (part : ℤ → ℤ → Bool) (p : Patch) : Type 0 where
@@ -26,10 +26,19 @@ pub record IsBare (w : Window) (p : Patch) : Type 0 where
 abbrev pub is_met : (Window → Bool) → List Rect → Window → Bool
 is_met named area w = w.mapped && (named w || meets area (window_rect w))
 
--- the list of a window, where this is left of the area for it; one that isn't named or met keeps its list
+-- what the list has of the area is this part
+abbrev pub KeepsPart : List Rect → List Rect → (ℤ → ℤ → Bool) → Type 0
+KeepsPart old area part = (x y : ℤ) → (inside old x y && inside area x y) ≡ part x y
+
+-- the list of a window that is met, whose pixels of the area become this part; one that isn't named keeps a list that has this part
+abbrev pub IsPartList : Bool → List Rect → List Rect → (ℤ → ℤ → Bool) → Option Patch → Type 0
+IsPartList named area old part None = (named ≡ false) × KeepsPart old area part
+IsPartList named area old part (Some p) = IsPatch old area part p
+
+-- the list of a window, where this is left of the area for it; one that isn't named keeps its list where it isn't met, or has its part already
 abbrev pub IsNewList : (Window → Bool) → List Rect → List Rect → List Rect → Window → Option Patch → Type 0
-IsNewList named area left old w None = (named w ≡ false) × (is_met named area w ≡ false)
-IsNewList named area left old w (Some p) = IsPatch old area (λ x y. inside left x y && covers w x y) p ⊎ IsBare w p
+IsNewList named area left old w None = (named w ≡ false) × ((is_met named area w ≡ false) ⊎ KeepsPart old area (λ x y. inside left x y && has_place w x y))
+IsNewList named area left old w (Some p) = IsPatch old area (λ x y. inside left x y && has_place w x y) p ⊎ IsBare w p
 
 -- window n shows at these pixels under the new stack, and gained those
 pub record IsNew (width height : ℕ) (old new : List Window) (n : ℕ) (p : Patch) : Type 0 where
@@ -39,7 +48,7 @@ pub record IsNew (width height : ℕ) (old new : List Window) (n : ℕ) (p : Pat
 -- window n shows where it did, and stands where it did
 pub record Stands (width height : ℕ) (old new : List Window) (n : ℕ) : Type 0 where
   pub clips : (x y : ℤ) → shows width height new n x y ≡ shows width height old n x y
-  pub corner : origin new n ≡ origin old n
+  pub unmoved : origin new n ≡ origin old n
 
 -- window n has this new list, or its list stands
 abbrev pub IsMended : ℕ → ℕ → List Window → List Window → ℕ → Option Patch → Type 0
@@ -67,7 +76,7 @@ pub record AreMended (old : Layout) (new : List Window) (m : Mended) : Type 0 wh
 
 -- how many region computations the new lists may take
 abbrev pub mending_cost : (Window → Bool) → List Window → List Window → ℕ
-mending_cost named old new = 6 * reached named old new + (2 * (length (named_in named old) + length (named_in named new)) + 4)
+mending_cost named old new = 7 * reached_after named old new + (2 * (length (named_in named old) + length (named_in named new)) + 4)
 
 -- the new list, if there is one, or the list that stands
 abbrev pub list_or : Option Patch → List Rect → List Rect

@@ -4,13 +4,13 @@
 ghost use Rattle.std.specs.Prelude.{ℤ, ◌≡◌, ◌≤◌, ◌+◌, ◌*◌, ◌&&◌, ◌||◌, length, All, IfOk, if◌then◌else◌};
 ghost use Rattle.dri_base.specs.Ranges.{IsSide, WindowInRange};
 ghost use Rattle.dri_rect.specs.Pixels.{has_pixel, inside, IsInRange};
-ghost use Rattle.dri_clips.specs.Areas.{greater, has_named, lesser, meets, named_in, names, share_pixel, shared};
-ghost use Rattle.dri_clips.specs.Layouts.{covers, screen_rect, window_rect};
+ghost use Rattle.dri_clips.specs.Areas.{has_named, meets, named_in, names, share_pixel};
+ghost use Rattle.dri_clips.specs.Layouts.{has_place, screen_rect, window_rect};
 
 use crate::cause::Cause;
 use crate::stack::Stack;
 use dri_base::{OutOfMemory, Rect, Steps, Window};
-use dri_rect::Region;
+use dri_rect::{Region, shared};
 use std::alloc::Global;
 use std::sync::ledger::Ledger;
 
@@ -38,32 +38,6 @@ pub fn screen(width: u32, height: u32) -> Rect
         y1: 0,
         x2: width as i32,
         y2: height as i32,
-    }
-}
-
-/// The greater of two numbers.
-fn greater(a: i32, b: i32) -> i32
-    ensures { result ≡ greater a b }
-{
-    if a < b { b } else { a }
-}
-
-/// The lesser of two numbers.
-fn lesser(a: i32, b: i32) -> i32
-    ensures { result ≡ lesser a b }
-{
-    if a < b { a } else { b }
-}
-
-/// The pixels that two rectangles share.
-fn shared(a: &Rect, b: &Rect) -> Rect
-    ensures { result ≡ shared a.now b.now }
-{
-    Rect {
-        x1: greater(a.x1, b.x1),
-        y1: greater(a.y1, b.y1),
-        x2: lesser(a.x2, b.x2),
-        y2: lesser(a.y2, b.y2),
     }
 }
 
@@ -98,7 +72,7 @@ fn add_window<L: Ledger>(
 ) -> Result<Region, OutOfMemory>
     requires ranged { WindowInRange window.now }
     requires screen { IsInRange screen.now }
-    ensures region { IfOk result (λ region. (x y : ℤ) → inside region x y ≡ (inside area x y || (has_pixel screen.now x y && (names cause.now window.now && covers window.now x y)))) }
+    ensures region { IfOk result (λ region. (x y : ℤ) → inside region x y ≡ (inside area x y || (has_pixel screen.now x y && (names cause.now window.now && has_place window.now x y)))) }
     ensures steps { steps.new ≤ steps.old + (if names cause.now window.now && window.now.mapped then 2 else 0) }
 {
     if !cause.names(window) {

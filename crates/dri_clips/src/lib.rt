@@ -1,5 +1,5 @@
 //! The windows of a screen: their stack, the pixels at which each of them shows, and the stamps that tell a client that
-//! its window's pixels or corner changed.
+//! the pixels at which its window shows, or its corner, changed.
 //!
 //! The stack is an index map by window number, from top to bottom. With it stand a region for each window number, the
 //! screen's pixels at which that window shows, and the region that no window covers. A change makes the new stack beside

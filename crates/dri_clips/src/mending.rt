@@ -1,16 +1,17 @@
 //! The walk over the area of a new stack, from top to bottom: each window that it meets gets a new list, made of what its
-//! old list has outside the area and of its part of the area.
+//! old list has outside the area and of its part of the area, unless the old list has just this part there.
 
 ghost use Rattle.std.specs.Prelude.{ℤ, ℕ, true, ◌≡◌, ◌≤◌, ◌+◌, ◌*◌, ◌&&◌, ◌||◌, not, filter, length, replicate, None, All, IfOk, OnOk, if◌then◌else◌};
 ghost use Rattle.dri_base.specs.Ranges.{WindowInRange};
 ghost use Rattle.dri_rect.specs.Pixels.{has_pixel, inside};
 ghost use Rattle.dri_clips.specs.Areas.{in_area, names, others};
-ghost use Rattle.dri_clips.specs.Layouts.{AreDistinct, IsAbsent, IsLayout, covers, window_rect};
-ghost use Rattle.dri_clips.specs.Mends.{AreMended, IsNewList, IsPatch, IsWalk, is_met, mending_cost};
+ghost use Rattle.dri_clips.specs.Layouts.{AreDistinct, IsAbsent, IsLayout, has_place, window_rect};
+ghost use Rattle.dri_clips.specs.Mends.{AreMended, IsNewList, IsPartList, IsPatch, IsWalk, is_met, mending_cost};
 
 use crate::area::{area_of, meets, rect_of, screen};
 use crate::cause::Cause;
 use crate::layout::{Layout, NUMBERS};
+use crate::regions::same_region;
 use crate::stack::Stack;
 use dri_base::{OutOfMemory, Steps, Window};
 use dri_rect::Region;
@@ -77,6 +78,26 @@ fn mend_list<L: Ledger>(
     })
 }
 
+/// The list of a window that is met, whose pixels of the area become this part. Where it has just these there, its list
+/// stands, unless it is named and so may have moved.
+fn mend_met<L: Ledger>(
+    alloc: Global,
+    named: bool,
+    old: &Region,
+    area: &Region,
+    part: &Region,
+    steps: &mut Steps<L>,
+) -> Result<Option<Patch>, OutOfMemory>
+    ensures list { IfOk result (IsPartList named area.now old.now (inside part.now)) }
+    ensures steps { steps.new ≤ steps.old + 4 }
+{
+    let was = old.intersect(alloc, area, steps)?;
+    if !named && same_region(&was, part) {
+        return Ok(None);
+    }
+    Ok(Some(mend_list(alloc, old, area, part, steps)?))
+}
+
 /// Whether a window takes part in the area.
 fn is_met(cause: &Cause, area: &Region, window: &Window) -> bool
     requires { WindowInRange window.now }
@@ -98,12 +119,12 @@ fn mend_window<L: Ledger>(
     requires ranged { WindowInRange window.now }
     requires within { (x y : ℤ) → inside left.old x y ≡ true → inside area.now x y ≡ true }
     ensures list { IfOk result (IsNewList (names cause.now) area.now left.old old.now window.now) }
-    ensures left { OnOk result ((x y : ℤ) → inside left.new x y ≡ (inside left.old x y && not (covers window.now x y))) }
-    ensures steps { steps.new ≤ steps.old + (if is_met (names cause.now) area.now window.now then 6 else 0) }
+    ensures left { OnOk result ((x y : ℤ) → inside left.new x y ≡ (inside left.old x y && not (has_place window.now x y))) }
+    ensures steps { steps.new ≤ steps.old + (if is_met (names cause.now) area.now window.now then 7 else 0) }
 {
     if is_met(cause, area, window) {
         let part = take_part(alloc, left, window, steps)?;
-        return Ok(Some(mend_list(alloc, old, area, &part, steps)?));
+        return mend_met(alloc, cause.names(window), old, area, &part, steps);
     }
     if cause.names(window) {
         return Ok(Some(Patch {
@@ -142,7 +163,7 @@ fn mend_windows<L: Ledger>(
     requires left { left.old ≡ area.now }
     ensures apart { AreDistinct new.now }
     ensures walk { IfOk result (λ lists. IsWalk old.now.width old.now.height (names cause.now) old.now.stack new.now area.now (length new.now) left.new lists.items) }
-    ensures steps { steps.new ≤ steps.old + 6 * length (filter (is_met (names cause.now) area.now) new.now) }
+    ensures steps { steps.new ≤ steps.old + 7 * length (filter (is_met (names cause.now) area.now) new.now) }
 {
     let count = new.len();
     let mut lists = no_lists(alloc)?;

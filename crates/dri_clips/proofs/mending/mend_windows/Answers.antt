@@ -25,7 +25,7 @@ pub mend_window-requires-clause-ranged : goal.mend_window-requires-clause-ranged
 mend_window-requires-clause-ranged g c = all_get WindowInRange c.args.new.now c.loop-at.at c.window-window.result c.window-window.ensures c.requires.ranged
 
 pub returns-in_err-lists-2-clause-steps : goal.returns-in_err-lists-2-clause-steps
-returns-in_err-lists-2-clause-steps g c = cost_all _ c.args.new.now _ 6 c.args.steps.now c.mend_window.new.steps (cost_more _ c.args.new.now c.loop-at.at _ 6 c.args.steps.now c.loop-at.steps c.mend_window.new.steps c.window-window.result refl c.window-window.ensures c.loop-at.invariant.steps c.mend_window.ensures.steps)
+returns-in_err-lists-2-clause-steps g c = cost_all _ c.args.new.now _ 7 c.args.steps.now c.mend_window.new.steps (cost_more _ c.args.new.now c.loop-at.at _ 7 c.args.steps.now c.loop-at.steps c.mend_window.new.steps c.window-window.result refl c.window-window.ensures c.loop-at.invariant.steps c.mend_window.ensures.steps)
 
 pub index_mut-requires : goal.index_mut-requires
 index_mut-requires g c =
@@ -41,5 +41,5 @@ loop-at-preserved g c =
       walk = walk_more c.args.old.now.width c.args.old.now.height (names c.args.cause.now) c.args.old.now.stack c.args.new.now c.args.area.now c.loop-at.left c.mend_window.new.left c.loop-at.lists.items _ c.loop-at.at _ c.window-window.result c.in_ok-lists-2.field-0 refl c.len-count.ensures.apart c.window-window.ensures low c.loop-at.invariant.walk
           (new_list c.args.old.now.width c.args.old.now.height (names c.args.cause.now) c.args.old.now.stack c.args.new.now c.args.area.now c.loop-at.left c.index-was.result.now c.loop-at.at c.window-window.result c.in_ok-lists-2.field-0 c.requires.others c.requires.layout.apart c.len-count.ensures.apart c.window-window.ensures c.requires.area c.loop-at.invariant.walk.left_is
           (λ x y. ap (λ (rs : List Rect). inside rs x y) was ∙ c.requires.layout.clips c.window-window.result.number low x y) c.in_ok-lists-2.ensures.list) c.in_ok-lists-2.ensures.left refl;
-      steps = cost_more _ c.args.new.now c.loop-at.at _ 6 c.args.steps.now c.loop-at.steps c.mend_window.new.steps c.window-window.result refl c.window-window.ensures c.loop-at.invariant.steps c.mend_window.ensures.steps;
+      steps = cost_more _ c.args.new.now c.loop-at.at _ 7 c.args.steps.now c.loop-at.steps c.mend_window.new.steps c.window-window.result refl c.window-window.ensures c.loop-at.invariant.steps c.mend_window.ensures.steps;
     }
