@@ -69,12 +69,19 @@ fn goes_wrong(rt: HostRuntime) {
                 word: 0x5400_0004
             })
     );
+    let mut buffer = Buffer::new();
+    assert!(rt; buffer.push_triangle(&triangle()).is_ok());
+    assert!(rt; buffer.push_triangle(&triangle()).is_ok());
+    assert!(rt; buffer.words().len() == 26);
     for place in 0..26 {
         let mut words = [0_u32; 26];
-        words[0] = 0x5400_0003;
-        words[13] = 0x5400_0003;
+        words.copy_from_slice(buffer.words());
         words[place] = 0xffff_ffff;
         let bad = [0, 2, 6, 10, 13, 15, 19, 23].contains(&place);
-        assert_eq!(rt; decode(&words).is_err(), bad, "at {place}");
+        let fault = BadWord {
+            at: place as u32,
+            word: 0xffff_ffff,
+        };
+        assert!(rt; decode(&words).err() == bad.then_some(fault), "at {place}");
     }
 }
