@@ -126,9 +126,6 @@ fn running(rt: HostRuntime) {
     assert_eq!(rt; runner.value(), 24);
     runner.step();
     assert_eq!(rt; runner.value(), 40);
-    assert!(rt; setup.covers(1, 1));
-    runner.stand_at(1, 1);
-    assert_eq!(rt; runner.value(), 24);
 }
 
 /// Three equal points have no area.

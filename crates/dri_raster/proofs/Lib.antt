@@ -1,13 +1,17 @@
+-- The edges' distances, their bounds, and the coverage
+pub mod Rings
 pub mod Bounds
 pub mod Distances
-pub mod Rings
 pub mod Covered
-pub mod Quantities
-pub mod Rows
-pub mod Counts
-pub mod Filters
 pub mod CommonEdges
+-- The quantities, their sums, and how they grow along a row
+pub mod Quantities
 mod SumBounds
-pub mod Spans
-pub mod Reach
 pub mod Running
+-- Where the covered centres lie
+pub mod Reach
+-- Spans, and the walk by them
+pub mod Spans
+pub mod Rows
+pub mod Filters
+pub mod Counts

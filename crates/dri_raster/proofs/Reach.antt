@@ -1,5 +1,5 @@
 -- A covered centre lies between the corners: the three edges' distances balance the ways to the corners.
-use Rattle.std.proofs.Common.{◌&&◌, ◌≡◌, zero, suc, true, false, not, if◌then◌else◌, ℤ, pos, negsuc, ◌+ℤ◌, ◌-ℤ◌, ◌*ℤ◌, ◌≤ℤ◌, ◌<ℤ◌, neg_ℤ, unsigned_abs, int_le, int_lt, ap, refl, ◌∙◌, arith, Bool}
+use Rattle.std.proofs.Common.{◌&&◌, ◌≡◌, ◌↔◌, zero, suc, true, false, not, if◌then◌else◌, ℤ, pos, negsuc, ◌+ℤ◌, ◌-ℤ◌, ◌*ℤ◌, ◌≤ℤ◌, ◌<ℤ◌, neg_ℤ, unsigned_abs, int_le, int_lt, ap, refl, ◌∙◌, arith, Bool}
 use Rattle.std.specs.Ordering.{int_eq}
 use Rattle.std.proofs.lemmas.Int.{ints, by_lt_z}
 use Rattle.std.proofs.Math.IntN.{*ℤ_comm}
@@ -12,7 +12,7 @@ use Rattle.std.specs.Int.{int_div_euclid}
 use Rattle.dri_base.specs.declared.shape.Rect.{Rect}
 use Rattle.dri_raster.specs.Edges.{IsPixel}
 use Rattle.dri_raster.specs.Spans.{in_bounds}
-use Rattle.dri_raster.specs.Reach.{CoveredIsAmid}
+use Rattle.dri_raster.specs.Reach.{CoveredIsAmid, IsAmid}
 use Rattle.dri_raster.proofs.Rings.{mul_plus, plus_mul, mul_neg, neg_mul, mul_assoc}
 use Rattle.dri_raster.proofs.Quantities.{area_turned, edges_add, first_of, second_of}
 use Rattle.dri_base.proofs.Quantities.{within_above}
@@ -171,6 +171,15 @@ pub floor_past : (z n : ℤ) → ((pos 16 *ℤ n) +ℤ pos 16) ≤ℤ z → n <�
 floor_past (pos a) n h = omega (arith, ints)
 floor_past (negsuc a) n h = omega (arith, ints)
 
+-- and back
+pub floor_up_to : (z n : ℤ) → int_div_euclid z (pos 16) ≤ℤ n → z ≤ℤ ((pos 16 *ℤ n) +ℤ pos 15)
+floor_up_to (pos a) n h = omega (arith, ints)
+floor_up_to (negsuc a) n h = omega (arith, ints)
+
+pub floor_beyond : (z n : ℤ) → n <ℤ int_div_euclid z (pos 16) → ((pos 16 *ℤ n) +ℤ pos 16) ≤ℤ z
+floor_beyond (pos a) n h = omega (arith, ints)
+floor_beyond (negsuc a) n h = omega (arith, ints)
+
 pub floor_near : (z : ℤ) → neg_ℤ (pos 32768) ≤ℤ z → z ≤ℤ pos 32775 → IsPixel (int_div_euclid z (pos 16))
 floor_near (pos a) h k = (omega (arith, ints), omega (arith, ints))
 floor_near (negsuc a) h k = (omega (arith, ints), omega (arith, ints))
@@ -184,7 +193,26 @@ framed r x y a b c d = both_hold (int_le r.x1 x && int_lt x r.x2) (int_le r.y1 y
   both_hold true q h k = k
   both_hold false q h k = h
 
+pub columns_of : (r : Rect) (x y : ℤ) → in_bounds r x y ≡ true → (r.x1 ≤ℤ x) × (x <ℤ r.x2)
+columns_of r x y h = both r.x1 x r.x2 (first_of (int_le r.x1 x && int_lt x r.x2) (int_le r.y1 y && int_lt y r.y2) h) where
+  both : (l m n : ℤ) → (int_le l m && int_lt m n) ≡ true → (l ≤ℤ m) × (m <ℤ n)
+  both l m n k = (grind (arith, ints), grind (arith, ints))
+
 pub rows_of : (r : Rect) (x y : ℤ) → in_bounds r x y ≡ true → (r.y1 ≤ℤ y) × (y <ℤ r.y2)
 rows_of r x y h = last_of r.y1 y r.y2 (second_of (int_le r.x1 x && int_lt x r.x2) (int_le r.y1 y && int_lt y r.y2) h) where
   last_of : (l m n : ℤ) → (int_le l m && int_lt m n) ≡ true → (l ≤ℤ m) × (m <ℤ n)
   last_of l m n k = (grind (arith, ints), grind (arith, ints))
+
+-- the pixels of the rows and columns between the corners
+pub amid_bounds : (t : Triangle) (r : Rect) (x y : ℤ)
+    → ((k : ℤ) → k ≤ℤ t.a.x → k ≤ℤ t.b.x → k ≤ℤ t.c.x → k ≤ℤ (centre x y).x) ↔ (r.x1 ≤ℤ x) → ((k : ℤ) → t.a.x ≤ℤ k → t.b.x ≤ℤ k → t.c.x ≤ℤ k → (centre x y).x ≤ℤ k) ↔ (x <ℤ r.x2)
+    → ((k : ℤ) → k ≤ℤ t.a.y → k ≤ℤ t.b.y → k ≤ℤ t.c.y → k ≤ℤ (centre x y).y) ↔ (r.y1 ≤ℤ y) → ((k : ℤ) → t.a.y ≤ℤ k → t.b.y ≤ℤ k → t.c.y ≤ℤ k → (centre x y).y ≤ℤ k) ↔ (y <ℤ r.y2)
+    → IsAmid t (centre x y) ↔ (in_bounds r x y ≡ true)
+amid_bounds t r x y left right top bottom = (λ m. framed r x y (left.0 m.left) (right.0 m.right) (top.0 m.top) (bottom.0 m.bottom), λ h. between h) where
+  between : in_bounds r x y ≡ true → IsAmid t (centre x y)
+  between h = record {
+    left = left.1 (columns_of r x y h).0;
+    right = right.1 (columns_of r x y h).1;
+    top = top.1 (rows_of r x y h).0;
+    bottom = bottom.1 (rows_of r x y h).1;
+  }

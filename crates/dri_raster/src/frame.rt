@@ -1,18 +1,21 @@
 //! The rows and columns that hold what a triangle covers: those whose centres lie between its corners.
 
-ghost use Rattle.std.specs.Prelude.{◌≡◌, ℤ, pos, ◌+ℤ◌, ◌*ℤ◌, ◌≤ℤ◌, ◌<ℤ◌, true};
-ghost use Rattle.dri_base.specs.Coverage.{covers};
+ghost use Rattle.std.specs.Prelude.{◌≡◌, ◌↔◌, ℤ, pos, ◌+ℤ◌, ◌*ℤ◌, ◌≤ℤ◌, ◌<ℤ◌, true};
+ghost use Rattle.dri_base.specs.Coverage.{centre, covers};
 ghost use Rattle.dri_base.specs.Ranges.{IsVertexPlace, TriangleInRange};
 ghost use Rattle.dri_raster.specs.Edges.{IsPixel};
+ghost use Rattle.dri_raster.specs.Reach.{IsAmid};
 ghost use Rattle.dri_raster.specs.Spans.{in_bounds};
 ghost use Rattle.dri_raster.specs.Walks.{IsNear};
 
+use crate::grid::{HALF, ROUNDED_UP, UNITS};
 use crate::span::Span;
 use dri_base::{Rect, Triangle};
 
-/// A rectangle that holds each pixel whose centre the triangle covers.
+/// The pixels whose centres lie between the triangle's corners, among them each that it covers.
 pub fn frame(triangle: &Triangle) -> Rect
     requires { TriangleInRange triangle.now }
+    ensures pixels { (x y : ℤ) → IsAmid triangle.now (centre x y) ↔ (in_bounds result x y ≡ true) }
     ensures holds { (x y : ℤ) → covers triangle.now x y ≡ true → in_bounds result x y ≡ true }
     ensures near { IsNear result }
 {
@@ -32,8 +35,8 @@ fn among(a: i32, b: i32, c: i32) -> Span
     requires a { IsVertexPlace a }
     requires b { IsVertexPlace b }
     requires c { IsVertexPlace c }
-    ensures first { (n : ℤ) → ((k : ℤ) → k ≤ℤ a → k ≤ℤ b → k ≤ℤ c → k ≤ℤ ((pos 16 *ℤ n) +ℤ pos 8)) → result.x1 ≤ℤ n }
-    ensures past { (n : ℤ) → ((k : ℤ) → a ≤ℤ k → b ≤ℤ k → c ≤ℤ k → ((pos 16 *ℤ n) +ℤ pos 8) ≤ℤ k) → n <ℤ result.x2 }
+    ensures first { (n : ℤ) → ((k : ℤ) → k ≤ℤ a → k ≤ℤ b → k ≤ℤ c → k ≤ℤ ((pos 16 *ℤ n) +ℤ pos 8)) ↔ (result.x1 ≤ℤ n) }
+    ensures past { (n : ℤ) → ((k : ℤ) → a ≤ℤ k → b ≤ℤ k → c ≤ℤ k → ((pos 16 *ℤ n) +ℤ pos 8) ≤ℤ k) ↔ (n <ℤ result.x2) }
     ensures near { IsPixel result.x1 × IsPixel result.x2 }
 {
     let x1 = first(least(a, b, c));
@@ -85,19 +88,19 @@ fn later(a: i32, b: i32) -> i32
 /// The first column or row whose centre isn't before a place.
 fn first(place: i32) -> i32
     requires { IsVertexPlace place }
-    ensures first { (n : ℤ) → place ≤ℤ ((pos 16 *ℤ n) +ℤ pos 8) → result ≤ℤ n }
+    ensures first { (n : ℤ) → (place ≤ℤ ((pos 16 *ℤ n) +ℤ pos 8)) ↔ (result ≤ℤ n) }
     ensures near { IsPixel result }
 {
-    (place + 7).div_euclid(16)
+    (place + ROUNDED_UP).div_euclid(UNITS)
 }
 
 /// The first column or row whose centre is past a place.
 fn past(place: i32) -> i32
     requires { IsVertexPlace place }
-    ensures past { (n : ℤ) → ((pos 16 *ℤ n) +ℤ pos 8) ≤ℤ place → n <ℤ result }
+    ensures past { (n : ℤ) → (((pos 16 *ℤ n) +ℤ pos 8) ≤ℤ place) ↔ (n <ℤ result) }
     ensures near { IsPixel result }
 {
-    (place + 8).div_euclid(16)
+    (place + HALF).div_euclid(UNITS)
 }
 
 fn least(a: i32, b: i32, c: i32) -> i32
@@ -107,6 +110,7 @@ fn least(a: i32, b: i32, c: i32) -> i32
     ensures a { result ≤ℤ a }
     ensures b { result ≤ℤ b }
     ensures c { result ≤ℤ c }
+    ensures one { (k : ℤ) → k ≤ℤ a → k ≤ℤ b → k ≤ℤ c → k ≤ℤ result }
     ensures in_range { IsVertexPlace result }
 {
     if a < b {
@@ -125,6 +129,7 @@ fn greatest(a: i32, b: i32, c: i32) -> i32
     ensures a { a ≤ℤ result }
     ensures b { b ≤ℤ result }
     ensures c { c ≤ℤ result }
+    ensures one { (k : ℤ) → a ≤ℤ k → b ≤ℤ k → c ≤ℤ k → result ≤ℤ k }
     ensures in_range { IsVertexPlace result }
 {
     if b < a {

@@ -6,6 +6,7 @@ mod channel;
 mod edge;
 mod edges;
 mod frame;
+mod grid;
 mod neighbours;
 mod runner;
 mod setup;

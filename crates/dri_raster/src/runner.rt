@@ -39,7 +39,7 @@ impl<'a> Model for Runner<'a> {
 impl<'a> Runner<'a> {
     /// A runner that stands at pixel (x, y), whose centre the triangle covers.
     #[inline(always)]
-    pub fn new(setup: &'a Setup, channel: Channel, x: i32, y: i32) -> Runner<'a>
+    pub(crate) fn new(setup: &'a Setup, channel: Channel, x: i32, y: i32) -> Runner<'a>
         requires { IsTrue (covers setup.now x y) }
         ensures { result ≡ record { triangle = setup.now; channel = channel; x = x; y = y } }
     {
@@ -82,17 +82,5 @@ impl<'a> Runner<'a> {
             self.quotient += 1;
             self.remainder -= self.area;
         }
-    }
-
-    /// Goes to pixel (x, y), whose centre the triangle covers.
-    pub fn stand_at(&mut self, x: i32, y: i32)
-        requires { IsTrue (covers self.old.triangle x y) }
-        ensures { self.new ≡ record self.old { x = x; y = y } }
-    {
-        let sum = self.setup.sum_at(self.channel, x, y);
-        self.x = x;
-        self.y = y;
-        self.quotient = (sum / self.area) as i64;
-        self.remainder = sum % self.area;
     }
 }

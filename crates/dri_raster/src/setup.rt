@@ -7,6 +7,7 @@ ghost use Rattle.dri_raster.specs.Channels.{IsBounded, most, value_of};
 ghost use Rattle.dri_raster.specs.Runners.{slope_of};
 ghost use Rattle.dri_raster.specs.Standing.{Standing};
 ghost use Rattle.dri_raster.specs.Edges.{IsPixel, IsWithin};
+ghost use Rattle.dri_raster.specs.Reach.{IsAmid};
 ghost use Rattle.dri_raster.specs.Spans.{CoversNone, IsSpan, in_bounds};
 ghost use Rattle.dri_raster.specs.Walks.{IsNear, covered_points};
 ghost use Rattle.dri_base.specs.Ranges.{TriangleInRange};
@@ -120,8 +121,10 @@ impl Setup {
         Runner::new(self, channel, x, y)
     }
 
-    /// A rectangle that holds each pixel whose centre the triangle covers: the rows and columns between its corners.
+    /// The pixels whose centres lie between the triangle's corners, in columns and in rows: a rectangle that holds each pixel
+    /// whose centre the triangle covers.
     pub fn frame(&self) -> Rect
+        ensures pixels { (x y : ℤ) → IsAmid self.now (centre x y) ↔ (in_bounds result x y ≡ true) }
         ensures holds { (x y : ℤ) → covers self.now x y ≡ true → in_bounds result x y ≡ true }
         ensures near { IsNear result }
     {
