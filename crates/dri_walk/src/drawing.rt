@@ -1,7 +1,7 @@
-//! The drawing of one triangle. What the registers decide for all of its pixels is decided once. The shading, the texture
-//! mode and the blending are types, which `draw` chooses, and the walk over the pixels is made for each choice of them. The
-//! depth function is three flags, of which a pixel's depth says the one that counts, and whether depth is written is a
-//! flag too: no pixel looks at the registers.
+//! The drawing of one triangle. What the registers say is looked up once. The shading, the texture mode and the blending are
+//! types, which `draw` chooses, and the walk over the pixels is made for each choice of them. The rest is kept as values: at
+//! each pixel the depth test reads one of its three flags, what is drawn asks whether depth is written, and a texel asks
+//! each side for its wrapping and the image for its format.
 
 ghost use Rattle.std.specs.Prelude.{◌≡◌, ◌≤◌, ◌+◌, ◌*◌, ℕ, length, IsNone, IfSome, IsTrue, ◌↔◌, pos};
 ghost use Rattle.dri_base.specs.Coverage.{area, covers};
