@@ -1,11 +1,11 @@
 -- Places of a plane of colours and one of depths that are painted along a row.
-use Rattle.std.proofs.Common.{◌≡◌, ℕ, ◌+◌, ◌*◌, ◌<◌, ◌≤◌, List, get_or, slice_set, Bool, true, false, ◌&&◌, ◌==◌, if◌then◌else◌, Option, Some, None, refl, ap, ◌∙◌, arith}
+use Rattle.std.proofs.Common.{◌≡◌, ℕ, suc, ◌+◌, ◌-◌, ◌*◌, ◌<◌, ◌≤◌, List, get_or, slice_set, Bool, true, false, ◌&&◌, ◌==◌, if◌then◌else◌, Option, Some, None, refl, ap, sym, ◌∙◌, arith}
 use Rattle.std.proofs.lemmas.Bool.Decides.{nat_tests}
 use Rattle.std.proofs.lemmas.Bool.{eqb-true}
 use Rattle.dri_base.specs.declared.colour.Pixel.{Pixel}
 use Rattle.dri_base.specs.declared.colour.Rgb.{Rgb}
 use Rattle.dri_plane.specs.Grids.{Grid, is_place}
-use Rattle.dri_plane.specs.Runs.{HoldPairs, grid, in_row, left_by, place_painted, run_painted}
+use Rattle.dri_plane.specs.Runs.{HoldPairs, accesses, grid, in_row, left_by, place_painted, run_accesses, run_painted}
 use Rattle.dri_base.proofs.PlaneLists.{pixel_at}
 use Rattle.std.proofs.lemmas.Nat.{div-mul-add, mod-mul-add, mul-add-lt}
 use Rattle.dri_plane.proofs.Planes.{plane_put}
@@ -63,6 +63,25 @@ run_more back depth paint y left x f from holds =
     by a b true false joined apart = joined _ _
     by a b false true joined apart = joined _ _
     by a b false false joined apart = joined _ _
+
+-- the accesses of the first place of a run
+pub accesses_begin : (paint : ℕ → Pixel → Option Pixel) (y left : ℕ) (f : ℕ → ℕ → Pixel) → run_accesses paint y left (left + 1 - left) f ≡ accesses (paint left (f left y))
+accesses_begin paint y left f =
+    let one : left + 1 - left ≡ suc 0 = omega arith in
+    let here : left + 0 ≡ left = omega arith in
+    let alone : (n : ℕ) → 0 + n ≡ n = λ n. omega arith in
+    ap (λ n. run_accesses paint y left n f) one ∙ alone (accesses (paint (left + 0) (f (left + 0) y))) ∙ ap (λ k. accesses (paint k (f k y))) here
+
+-- and of one place more, which the run so far left as it was
+pub accesses_more : (paint : ℕ → Pixel → Option Pixel) (y left x : ℕ) (f : ℕ → ℕ → Pixel) → left ≤ x
+    → run_accesses paint y left (x + 1 - left) f ≡ run_accesses paint y left (x - left) f + accesses (paint x (run_painted (λ p. p) paint y left x f x y))
+accesses_more paint y left x f from =
+    let more : x + 1 - left ≡ suc (x - left) = omega (arith, from) in
+    let there : left + (x - left) ≡ x = omega (arith, from) in
+    let apart : in_row y left x x y ≡ false = grind (arith, nat_tests) in
+    let so_far : ℕ = run_accesses paint y left (x - left) f in
+    ap (λ n. run_accesses paint y left n f) more ∙ ap (λ k. so_far + accesses (paint k (f k y))) there
+    ∙ ap (λ b. so_far + accesses (paint x (if b then left_by (λ p. p) (paint x (f x y)) (f x y) else f x y))) (sym apart)
 
 -- ---- two lists of rows
 -- the pair at a place of them

@@ -1,5 +1,5 @@
 -- A plane of colours and a plane of depths as one plane of pairs, and runs of its rows that are painted.
-use Rattle.std.specs.Prelude.{ℕ, ◌≡◌, List, Bool, ◌&&◌, ◌==◌, nat_le, nat_lt, if◌then◌else◌, Option, Some, None}
+use Rattle.std.specs.Prelude.{ℕ, zero, suc, ◌≡◌, ◌+◌, List, Bool, ◌&&◌, ◌==◌, nat_le, nat_lt, if◌then◌else◌, Option, Some, None}
 use Rattle.dri_base.specs.declared.colour.Rgb.{Rgb}
 use Rattle.dri_base.specs.declared.colour.Pixel.{Pixel}
 use Rattle.dri_base.specs.Planes.{plane}
@@ -30,3 +30,13 @@ run_painted kept paint y left right f a b = if in_row y left right a b then left
 -- the pairs after one place is painted
 abbrev pub place_painted : (ℕ → Pixel → Option Pixel) → ℕ → ℕ → (ℕ → ℕ → Pixel) → ℕ → ℕ → Pixel
 place_painted paint x y f a b = if is_place x y a b then left_by (λ p. p) (paint a (f a b)) (f a b) else f a b
+
+-- the accesses to the two planes that a place takes: both are read, and both are written where it is painted
+abbrev pub accesses : Option Pixel → ℕ
+accesses None = 2
+accesses (Some pixel) = 4
+
+-- those that n places of row y take, from column left on
+abbrev pub run_accesses : (ℕ → Pixel → Option Pixel) → ℕ → ℕ → ℕ → (ℕ → ℕ → Pixel) → ℕ
+run_accesses paint y left zero f = 0
+run_accesses paint y left (suc n) f = run_accesses paint y left n f + accesses (paint (left + n) (f (left + n) y))

@@ -3,7 +3,7 @@
 
 ghost use Rattle.std.specs.Prelude.{◌≡◌, ◌≤◌, ◌<◌, ◌+◌, ◌-◌, ◌*◌, ℕ, Option, length};
 ghost use Rattle.dri_base.specs.declared.colour.Pixel.{Pixel};
-ghost use Rattle.dri_plane.specs.Runs.{HoldPairs, grid, place_painted, run_painted};
+ghost use Rattle.dri_plane.specs.Runs.{HoldPairs, accesses, grid, place_painted, run_accesses, run_painted};
 
 use crate::counting::count;
 use crate::plane::Plane;
@@ -81,7 +81,7 @@ fn paint_place<P: Painter, L: Ledger>(
     ensures colours { length colours.new ≡ length colours.old }
     ensures depths { length depths.new ≡ length depths.old }
     ensures pairs { (f : ℕ → ℕ → Pixel) → HoldPairs (grid width height colours.old) (grid width height depths.old) f → HoldPairs (grid width height colours.new) (grid width height depths.new) (place_painted (P.paints painter.now) x y f) }
-    ensures least { steps.old + 2 ≤ steps.new }
+    ensures accesses { (f : ℕ → ℕ → Pixel) → HoldPairs (grid width height colours.old) (grid width height depths.old) f → steps.new ≡ steps.old + accesses (P.paints painter.now x (f x y)) }
     ensures cost { steps.new ≤ steps.old + 4 }
 {
     let place = place_of(width, height, x, y);
@@ -121,7 +121,7 @@ fn paint_run<P: Painter, L: Ledger>(
     ensures colours { length colours.new ≡ length colours.old }
     ensures depths { length depths.new ≡ length depths.old }
     ensures pairs { (f : ℕ → ℕ → Pixel) → HoldPairs (grid width height colours.old) (grid width height depths.old) f → HoldPairs (grid width height colours.new) (grid width height depths.new) (run_painted (λ p. p) (P.paints painter.old) y left right f) }
-    ensures least { steps.old + 2 * (right - left) ≤ steps.new }
+    ensures accesses { (f : ℕ → ℕ → Pixel) → HoldPairs (grid width height colours.old) (grid width height depths.old) f → steps.new ≡ steps.old + run_accesses (P.paints painter.old) y left (right - left) f }
     ensures cost { steps.new ≤ steps.old + 4 * (right - left) }
 {
     paint_place(colours, depths, width, height, left, y, painter, steps);
@@ -154,7 +154,7 @@ pub fn paint_row<P: Painter, L: Ledger>(
     ensures colours { (colours.new.width ≡ colours.old.width) × (colours.new.height ≡ colours.old.height) }
     ensures depths { (depths.new.width ≡ depths.old.width) × (depths.new.height ≡ depths.old.height) }
     ensures pairs { (f : ℕ → ℕ → Pixel) → HoldPairs colours.old depths.old f → HoldPairs colours.new depths.new (run_painted (λ p. p) (P.paints painter.old) y left right f) }
-    ensures least { steps.old + 2 * (right - left) ≤ steps.new }
+    ensures accesses { (f : ℕ → ℕ → Pixel) → HoldPairs colours.old depths.old f → steps.new ≡ steps.old + run_accesses (P.paints painter.old) y left (right - left) f }
     ensures cost { steps.new ≤ steps.old + 4 * (right - left) }
 {
     let width = colours.width as usize;

@@ -1,7 +1,7 @@
 -- One place more, and all.
-use Rattle.std.proofs.Common.{◌≡◌, ◌+◌, ◌-◌, ◌≤◌, refl, subst, ◌∙◌, arith}
-use Rattle.dri_plane.specs.Runs.{HoldPairs, grid, place_painted, run_painted}
-use Rattle.dri_plane.proofs.Painted.{run_begins, run_more}
+use Rattle.std.proofs.Common.{◌≡◌, ◌+◌, ◌-◌, ◌≤◌, refl, ap, sym, subst, ◌∙◌, arith}
+use Rattle.dri_plane.specs.Runs.{HoldPairs, accesses, grid, place_painted, run_accesses, run_painted}
+use Rattle.dri_plane.proofs.Painted.{accesses_begin, accesses_more, run_begins, run_more}
 use Rattle.dri_plane.proofs.painting.paint_run.Goals as goal
 
 pub loop-x-init : goal.loop-x-init
@@ -17,7 +17,7 @@ loop-x-init g c =
       colours = one.colours;
       depths = one.depths;
       pairs = λ f holds. run_begins (grid w h c.paint_place.new.colours) (grid w h c.paint_place.new.depths) (g.P.Painter.paints c.args.painter.now) c.args.y c.args.left f (one.pairs f holds);
-      least = omega (arith, one.least);
+      accesses = λ f holds. one.accesses f holds ∙ ap (λ n. c.args.steps.now + n) (sym (accesses_begin (g.P.Painter.paints c.args.painter.now) c.args.y c.args.left f));
       cost = omega (arith, one.cost);
     }
 
@@ -44,7 +44,11 @@ loop-x-preserved g c =
       depths = one.depths ∙ seen.depths;
       pairs = λ f holds. run_more back depth paint y left x f (omega (arith, past))
           (subst (λ p. HoldPairs back depth (place_painted p x y (run_painted (λ v. v) paint y left x f))) same (one.pairs (run_painted (λ v. v) paint y left x f) (seen.pairs f holds)));
-      least = omega (arith, past, one.least, seen.least);
+      accesses = λ f holds.
+          let before = seen.accesses f holds in
+          let here = subst (λ p. c.paint_place-in-loop-x.new.steps ≡ c.loop-x.steps + accesses (p x (run_painted (λ v. v) paint y left x f x y))) same (one.accesses (run_painted (λ v. v) paint y left x f) (seen.pairs f holds)) in
+          let more = accesses_more paint y left x f (omega (arith, past)) in
+          omega (arith, before, here, more);
       cost = omega (arith, past, one.cost, seen.cost);
     }
 
@@ -55,3 +59,9 @@ returns-clause-pairs g c f holds =
     let some : c.args.left + 1 ≤ c.args.right = omega (arith, c.requires.some) in
     let last : c.loop-x.x ≡ c.args.right = omega (arith, c.loop-x-test.false, c.loop-x.auto.x-end some) in
     subst (λ x. HoldPairs (grid w h c.loop-x.colours) (grid w h c.loop-x.depths) (run_painted (λ v. v) (g.P.Painter.paints c.args.painter.now) c.args.y c.args.left x f)) last (c.loop-x.invariant.pairs f holds)
+
+pub returns-clause-accesses : goal.returns-clause-accesses
+returns-clause-accesses g c f holds =
+    let some : c.args.left + 1 ≤ c.args.right = omega (arith, c.requires.some) in
+    let last : c.loop-x.x ≡ c.args.right = omega (arith, c.loop-x-test.false, c.loop-x.auto.x-end some) in
+    subst (λ x. c.loop-x.steps ≡ c.args.steps.now + run_accesses (g.P.Painter.paints c.args.painter.now) c.args.y c.args.left (x - c.args.left) f) last (c.loop-x.invariant.accesses f holds)
