@@ -1,4 +1,5 @@
-//! Two windows of 2 by 2 on a screen of 2 by 2: what each change touches, and which changes are refused.
+//! Two windows of 2 by 2 on a screen of 2 by 2: what each change touches, and which changes are refused. And four windows on a
+//! screen of 4 by 4, of which some have one pixel, hang off the screen or share a rectangle: each kind of change, and a death.
 
 ghost use Rattle.std.specs.Prelude.{◌≡◌, ◌≤◌, ◌+◌, IfOk};
 ghost use Rattle.dri_leaf_tests.specs.Boards.{HasBoth};
@@ -67,7 +68,7 @@ fn apply<L: Ledger>(
     change: &Change,
     steps: &mut Steps<L>,
 ) -> Result<Touched, ChangeFault>
-    requires { board.old.counter ≤ 1000 }
+    requires { board.old.counter ≤ 2000 }
     ensures counter { board.new.counter ≤ board.old.counter + 64 }
     ensures both { HasBoth board.old → HasBoth board.new }
 {
@@ -82,7 +83,7 @@ fn bury<L: Ledger>(
     owner: u32,
     steps: &mut Steps<L>,
 ) -> Result<Touched, OutOfMemory>
-    requires { board.old.counter ≤ 1000 }
+    requires { board.old.counter ≤ 2000 }
     ensures counter { board.new.counter ≤ board.old.counter + 64 }
     ensures both { HasBoth board.old → HasBoth board.new }
 {
@@ -244,7 +245,7 @@ fn four_windows(alloc: Global) -> Result<Board, OutOfMemory>
 #[derive(Clone, Copy)]
 struct Row(Change, &'static [u32], &'static [(u8, [u16; 4])]);
 
-const CHANGES: [Row; 9] = [
+const CHANGES: [Row; 22] = [
     Row(
         Change::Raise { window: 3 },
         &[1, 2, 3],
@@ -315,6 +316,59 @@ const CHANGES: [Row; 9] = [
         &[],
         &[],
     ),
+    Row(
+        Change::Resize {
+            window: 2,
+            width: 2,
+            height: 2,
+        },
+        &[],
+        &[],
+    ),
+    Row(
+        Change::Move {
+            window: 4,
+            x: 2,
+            y: 2,
+        },
+        &[4],
+        &[(0, [3, 3, 4, 4])],
+    ),
+    Row(Change::Raise { window: 4 }, &[1, 4], &[(4, [2, 2, 3, 3])]),
+    Row(Change::Lower { window: 4 }, &[1, 4], &[(1, [2, 2, 3, 3])]),
+    Row(Change::Unmap { window: 1 }, &[1, 2], &[(2, [2, 2, 3, 3])]),
+    Row(Change::Map { window: 1 }, &[1, 2], &[(1, [2, 2, 3, 3])]),
+    Row(
+        Change::Move {
+            window: 2,
+            x: 3,
+            y: -1,
+        },
+        &[2, 3],
+        &[(2, [3, 0, 4, 1]), (3, [1, 1, 3, 2]), (3, [1, 2, 2, 3])],
+    ),
+    Row(
+        Change::Move {
+            window: 4,
+            x: 3,
+            y: 0,
+        },
+        &[4],
+        &[],
+    ),
+    Row(Change::Lower { window: 2 }, &[2, 4], &[(4, [3, 0, 4, 1])]),
+    Row(Change::Raise { window: 2 }, &[2, 4], &[(2, [3, 0, 4, 1])]),
+    Row(Change::Unmap { window: 2 }, &[2, 4], &[(4, [3, 0, 4, 1])]),
+    Row(Change::Map { window: 2 }, &[2, 4], &[(2, [3, 0, 4, 1])]),
+    Row(
+        Change::Resize {
+            window: 2,
+            width: 2,
+            height: 2,
+        },
+        &[],
+        &[],
+    ),
 ];
 
 /// Whether the paints are these.
@@ -342,7 +396,7 @@ fn is_as_told<L: Ledger>(
     row: &Row,
     steps: &mut Steps<L>,
 ) -> Result<bool, ChangeFault>
-    requires { board.old.counter ≤ 1000 }
+    requires { board.old.counter ≤ 2000 }
     ensures { board.new.counter ≤ board.old.counter + 64 }
 {
     let touched = apply(alloc, board, &row.0, steps)?;
@@ -360,8 +414,8 @@ fn change_each<L: Ledger, R: Abort>(rt: &R, alloc: Global, blank: Blank) -> Resu
         assert!(rt; is_as_told(alloc, &mut board, &CHANGES[i], &mut steps)?);
     }
     let died = bury(alloc, &mut board, 2, &mut steps)?;
-    assert!(rt; died.windows.as_slice() == [2].as_slice());
-    let bared = [(0, [1, 1, 3, 2]), (0, [1, 2, 2, 3])];
+    assert!(rt; died.windows.as_slice() == [2, 3, 4].as_slice());
+    let bared = [(0, [1, 1, 3, 2]), (0, [1, 2, 2, 3]), (4, [3, 0, 4, 1])];
     assert!(rt; are_paints(died.paints.as_slice(), &bared));
     Ok(())
 }
