@@ -11,8 +11,8 @@ from enum import Enum
 from typing import Iterable, Optional
 
 from .journal import Entry
-from .scene import Client, Command, Scene
-from .stack import Stack, Tops, Window
+from .scene import Command, Scene, Window
+from .stack import Stack, Tops
 
 KERNEL_CONTEXT, SERVER_CONTEXT = 0, 1
 TAKES = ("light", "kernel")
@@ -198,6 +198,17 @@ class Course:
         if entry.kind == "change":
             return f"{entry} ({self.scene.changes[entry.numbers[0] - 1].line()})"
         return f"{entry} ({command.line()})" if command else str(entry)
+
+    def fate(self, frame: Frame) -> str:
+        """Returns in words whether a frame stood, and what took its stamp where it didn't."""
+        head = f"frame {frame.number} of client {frame.client}"
+        if frame.clear is None:
+            return f"{head}, entry {frame.swap}, begins with no clear"
+        head += f", entries {frame.clear} to {frame.swap},"
+        if frame.loss is None:
+            return f"{head} stood"
+        cause = f"entry {frame.loss.entry}, {self.told(frame.loss.entry)}"
+        return f"{head} didn't stand: {cause}, gave window {frame.window.number} stamp {frame.loss.stamp}"
 
     def window_of(self, client: int) -> int:
         return self.scene.clients[client].window

@@ -1,11 +1,11 @@
-"""Why an entry isn't legal where it stands, what would have been legal there, and why a frame didn't stand."""
+"""Why an entry isn't legal where it stands, and what would have been legal there."""
 
 from __future__ import annotations
 
 from dataclasses import dataclass
 from typing import Iterator, Optional
 
-from .course import DRAWS, IS_DONE, KERNEL_CONTEXT, TAKES, Course, Phase, Standing, context_of, named
+from .course import DRAWS, IS_DONE, KERNEL_CONTEXT, TAKES, Phase, Standing, context_of, named
 from .journal import Entry, groups_in, journal_text
 from .program import Program, Report, dies
 from .scene import Scene
@@ -135,13 +135,3 @@ def refusal_of(program: Program, scene: Scene, entries: list[Entry], number: int
         standing.take(it)
     legal = legal_after(program, scene, before)
     return Refusal(number, entry, fault_of(standing, entry) or fault_beside(entry, legal), legal)
-
-
-def fates(course: Course) -> Iterator[str]:
-    """Returns for each frame that didn't stand what took its stamp."""
-    for frame in course.frames:
-        if frame.loss:
-            yield (
-                f"frame {frame.number} of client {frame.client}, entries {frame.clear} to {frame.swap}, didn't stand: entry "
-                f"{frame.loss.entry}, {course.told(frame.loss.entry)}, gave window {frame.window.number} stamp {frame.loss.stamp}"
-            )

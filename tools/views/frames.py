@@ -14,7 +14,7 @@ from .timeline import colour_of, name_of
 HATCHES: tuple[Pixel, Pixel] = ((226, 230, 234), (242, 244, 246))
 HATCH = 3
 RED: Pixel = (208, 52, 44)
-LEFT, HEAD, GAP, BETWEEN, ABOVE, BELOW = 84, 58, 8, 26, 22, 46
+LEFT, HEAD, GAP, BETWEEN, ABOVE, BELOW = 96, 58, 8, 26, 22, 46
 LEAST_WIDTH, MOST_WIDTH, LARGE_SIDE, LARGEST_TIMES = 640, 1180, 160, 4
 SAID_SIZE = 10
 
@@ -57,8 +57,8 @@ def pair_of(program: Program, course: Course, frame: Frame) -> Pair:
     window, own, differing = frame.window, 0, 0
     shown = [[hatched(x, y) for x in range(window.width)] for y in range(window.height)]
     for y, row in enumerate(shown):
-        for x in range(window.width):
-            if frame.tops.at(window.x + x, window.y + y) == window.number:
+        for x, number in enumerate(frame.tops.row(window.y + y, window.x, window.x + window.width)):
+            if number == window.number:
                 pixel = screen.pixel(window.x + x, window.y + y)
                 is_equal = pixel == alone.pixel(x, y)
                 own, differing = own + 1, differing + (not is_equal)
@@ -105,7 +105,11 @@ class Sheet:
 
     def draw(self) -> str:
         most = max((len(it.pairs) + bool(it.end) for it in self.rows), default=0)
-        svg = Svg(max(LEFT + most * self.cell, LEAST_WIDTH), HEAD + sum(map(self.height, self.rows)), "Frames drawn alone and on the screen")
+        svg = Svg(
+            max(LEFT + most * self.cell, LEAST_WIDTH),
+            HEAD + sum(map(self.height, self.rows)),
+            "Frames drawn alone and on the screen",
+        )
         svg.text(16, 26, "Each frame drawn alone, and on the screen after its swap", 16, font_weight="bold")
         svg.text(16, 46, "hatched: pixels that other windows had then; red: pixels of its own that differ", 11, PALE)
         top = HEAD

@@ -7,7 +7,8 @@ from typing import Optional
 
 from .texts import Forms, Lines, Refused
 
-FORMS = Forms("""
+FORMS = Forms(
+    """
     light 1..32
     kernel 1..32 0..33
     stale 1..32
@@ -18,7 +19,8 @@ FORMS = Forms("""
     info 1..32
     change 1..4096
     gone 1..32
-""")
+"""
+)
 TITLE, END = "journal 1", "done"
 SERVER = 0
 # The groups of registers, from the lowest bit on.

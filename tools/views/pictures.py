@@ -52,7 +52,9 @@ def read_ppm(data: bytes, name: str = "the input") -> Picture:
     if (magic, most) != (b"P6", b"255") or not (1 <= width <= MOST_SIDE and 1 <= height <= MOST_SIDE):
         raise NoPicture(f"{name} isn't a binary PPM as dri writes it: its head is {data[:40]!r}")
     if len(pixels) != RGB * width * height:
-        raise NoPicture(f"{name} is cut off or too long: {width} by {height} pixels take {RGB * width * height} bytes, not {len(pixels)}")
+        raise NoPicture(
+            f"{name} is cut off or too long: {width} by {height} pixels take {RGB * width * height} bytes, not {len(pixels)}"
+        )
     size = RGB * width
     return Picture(width, height, [pixels[at : at + size] for at in range(0, len(pixels), size)])
 

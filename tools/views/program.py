@@ -9,7 +9,7 @@ from dataclasses import dataclass, replace
 from typing import Optional
 
 from .course import TAKES, Phase, Standing
-from .journal import SERVER, Entry, journal_text, read_journal
+from .journal import SERVER, Entry, read_journal
 from .pictures import Picture, read_ppm
 from .scene import Client, Command, Item, Scene, Window
 
@@ -72,7 +72,9 @@ class Program:
 
     def run(self, words: list[str], text: str) -> Ended:
         try:
-            ran = subprocess.run([self.path, *words], input=text.encode("latin-1"), capture_output=True, timeout=SECONDS, check=False)
+            ran = subprocess.run(
+                [self.path, *words], input=text.encode("latin-1"), capture_output=True, timeout=SECONDS, check=False
+            )
         except OSError as why:
             raise Failed(f"{self.path}: {why.strerror}") from None
         except subprocess.TimeoutExpired:

@@ -6,7 +6,8 @@ from dataclasses import dataclass, field
 
 from .texts import Forms, Lines, Number, Refused
 
-FORMS = Forms("""
+FORMS = Forms(
+    """
     dri 1
     screen 1..1024 1..1024 RRGGBB
     heap 1..64 256..65536
@@ -38,7 +39,10 @@ FORMS = Forms("""
     turns
     end
     done
-""".replace("{corner}", "-32768..32767 -32768..32767 0..65535 RRGGBBAA 0..65535 0..65535"))
+""".replace(
+        "{corner}", "-32768..32767 -32768..32767 0..65535 RRGGBBAA 0..65535 0..65535"
+    )
+)
 ITEM = "item"
 CLIENT_NUMBER = Number(1, 32)
 BYTES_OF_TEXEL = {"l8": 1, "rgb565": 2}

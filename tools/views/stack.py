@@ -42,6 +42,15 @@ class Tops:
         """Returns the topmost window's number, or 0 where there is none or the pixel isn't the screen's."""
         return next((number for number, rect in self.rects if rect.has(x, y)), NOBODY)
 
+    def row(self, y: int, x1: int, x2: int) -> list[int]:
+        """Returns the same for the pixels of a row from x1 to before x2."""
+        numbers = [NOBODY] * (x2 - x1)
+        for number, rect in reversed(self.rects):
+            first, last = max(rect.x1, x1), min(rect.x2, x2)
+            if rect.y1 <= y < rect.y2 and first < last:
+                numbers[first - x1 : last - x1] = [number] * (last - first)
+        return numbers
+
     def edges(self) -> tuple[set[int], set[int]]:
         """Returns the columns and the rows at which what is topmost may change."""
         rects = [self.screen, *(rect for _, rect in self.rects)]

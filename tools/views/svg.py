@@ -4,7 +4,7 @@ from __future__ import annotations
 
 import base64
 import html
-from typing import Optional, Union
+from typing import Union
 
 from .pictures import Picture, png
 
@@ -22,6 +22,11 @@ def short(value: Value) -> str:
     return f"{round(value, 1):g}" if isinstance(value, float) else str(value)
 
 
+def said(attributes: dict[str, Value]) -> str:
+    """Returns attributes as a tag has them."""
+    return "".join(f' {key.replace("_", "-")}="{html.escape(short(value))}"' for key, value in attributes.items())
+
+
 class Svg:
     """A drawing, made part by part. Attributes are given with `_` for `-`."""
 
@@ -33,9 +38,8 @@ class Svg:
         ]
         self.rect(0, 0, width, height, GROUND)
 
-    def tag(self, name: str, content: Optional[str] = None, **attributes: Value) -> None:
-        said = "".join(f' {key.replace("_", "-")}="{html.escape(short(value))}"' for key, value in attributes.items())
-        self.parts.append(f"<{name}{said}/>" if content is None else f"<{name}{said}>{content}</{name}>")
+    def tag(self, name: str, /, **attributes: Value) -> None:
+        self.parts.append(f"<{name}{said(attributes)}/>")
 
     def begin(self, hint: str) -> None:
         """Begins a group whose hint is shown where a pointer rests on it."""
@@ -57,8 +61,11 @@ class Svg:
         way = " ".join(f"{'L' if at else 'M'}{short(float(x))} {short(float(y))}" for at, (x, y) in enumerate(points))
         self.tag("path", d=way + (" Z" if is_closed else ""), **more)
 
-    def text(self, x: float, y: float, text: Value, size: float = 10, fill: str = INK, anchor: str = "start", **more: Value) -> None:
-        self.tag("text", html.escape(str(text)), x=x, y=y, font_size=size, fill=fill, text_anchor=anchor, **more)
+    def text(
+        self, x: float, y: float, text: Value, size: float = 10, fill: str = INK, anchor: str = "start", **more: Value
+    ) -> None:
+        attributes: dict[str, Value] = {"x": x, "y": y, "font_size": size, "fill": fill, "text_anchor": anchor, **more}
+        self.parts.append(f"<text{said(attributes)}>{html.escape(str(text))}</text>")
 
     def picture(self, x: float, y: float, picture: Picture, edge: str) -> None:
         """Puts a picture with an edge of a colour round it."""

@@ -56,17 +56,6 @@ def colour_of_frame(frame: Frame) -> str:
     return PALE if frame.clear is None else GOOD if frame.stood else BAD
 
 
-def fate_of(frame: Frame, course: Course) -> str:
-    """Returns in words whether a frame stood."""
-    head = f"frame {frame.number} of client {frame.client}"
-    if frame.clear is None:
-        return f"{head} begins with no clear"
-    if frame.loss is None:
-        return f"{head} stood, entries {frame.clear} to {frame.swap}"
-    lost = f"entry {frame.loss.entry}, {course.told(frame.loss.entry)}, gave window {frame.window.number} stamp {frame.loss.stamp}"
-    return f"{head} didn't stand: {lost}"
-
-
 class Timeline:
     """Draws one course."""
 
@@ -206,7 +195,7 @@ class Timeline:
         svg, colour = self.svg, colour_of_frame(frame)
         level = self.y(strip, frame.client) + self.layout.bar + (12 if self.layout.has_signs else 8)
         left, right = self.x(strip, first), self.x(strip, last)
-        svg.begin(fate_of(frame, self.course))
+        svg.begin(self.course.fate(frame))
         svg.line(left, level, right, level, colour, stroke_width=3)
         if first == frame.clear:
             svg.line(left, level - 4, left, level + 1.5, colour, stroke_width=2)
@@ -231,8 +220,10 @@ def hint_of(course: Course, number: int) -> str:
     return said + "".join(f"; window {window} gets stamp {stamp}" for window, stamp in told.items())
 
 
-def draw_letter(svg: Svg, letter: str, x: float, y: float, fill: str = WHITE, size: float = 10.5, **more: str) -> None:
-    svg.text(x, y + size * 0.36, letter, size, fill, "middle", font_weight="bold", **more)
+def draw_letter(
+    svg: Svg, letter: str, x: float, y: float, fill: str = WHITE, size: float = 10.5, style: str = "normal"
+) -> None:
+    svg.text(x, y + size * 0.36, letter, size, fill, "middle", font_weight="bold", font_style=style)
 
 
 def draw_leave(svg: Svg, x: float, y: float) -> None:
@@ -248,7 +239,7 @@ def draw_sign(svg: Svg, entry: Entry, command: Optional[Command], x: float, y: f
     """Draws an entry's sign with its middle at x and y."""
     letters = {"light": "L", "kernel": "K", "stale": "!", "change": "c", "info": "i"}
     if entry.kind in letters:
-        draw_letter(svg, letters[entry.kind], x, y, **({"font_style": "italic"} if entry.kind == "info" else {}))
+        draw_letter(svg, letters[entry.kind], x, y, style="italic" if entry.kind == "info" else "normal")
     elif entry.kind == "leave":
         draw_leave(svg, x, y)
     elif entry.kind == "gone":

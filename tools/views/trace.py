@@ -7,7 +7,7 @@ from typing import Any, Iterator
 
 from .course import Course
 from .journal import SERVER
-from .timeline import fate_of, hint_of, name_of
+from .timeline import hint_of, name_of
 
 ENTRY = 1000
 PROCESS = 1
@@ -19,7 +19,15 @@ Event = dict[str, Any]
 
 def slice_of(track: int, name: str, first: int, last: int, **more: Any) -> Event:
     """Returns a slice from the beginning of one entry to the end of another."""
-    return {"ph": "X", "pid": PROCESS, "tid": track, "name": name, "ts": first * ENTRY, "dur": (last - first + 1) * ENTRY, "args": more}
+    return {
+        "ph": "X",
+        "pid": PROCESS,
+        "tid": track,
+        "name": name,
+        "ts": first * ENTRY,
+        "dur": (last - first + 1) * ENTRY,
+        "args": more,
+    }
 
 
 def tracks(course: Course) -> Iterator[Event]:
@@ -47,7 +55,7 @@ def frames(course: Course) -> Iterator[Event]:
     for frame in course.frames:
         if frame.clear:
             name = f"frame {frame.number} {'stood' if frame.stood else 'did not stand'}"
-            yield slice_of(FRAMES + frame.client, name, frame.clear, frame.swap, told=fate_of(frame, course))
+            yield slice_of(FRAMES + frame.client, name, frame.clear, frame.swap, told=course.fate(frame))
 
 
 def trace_of(course: Course) -> str:
