@@ -32,6 +32,13 @@ def parser_of(doc: str, epilog: str = STATUSES) -> argparse.ArgumentParser:
     return argparse.ArgumentParser(name, usage, page, epilog, formatter_class=argparse.RawDescriptionHelpFormatter)
 
 
+def count_of(word: str) -> int:
+    """Reads a word that is a number above 0."""
+    if not (word.isascii() and word.isdigit() and int(word)):
+        raise argparse.ArgumentTypeError(f"{word!r} is no number above 0")
+    return int(word)
+
+
 def bytes_of(path: str) -> bytes:
     """Returns a file's bytes; `-` is standard input."""
     try:

@@ -89,6 +89,8 @@ def fault_beside(entry: Entry, legal: list[Entry]) -> str:
     if own.kind == "place":
         _, texture, first, count = own.numbers
         where = f"regions {first} to {first + count - 1}" if count > 1 else f"region {first}"
+        if entry.kind == "place":
+            return f"texture {texture} has to be placed in {where}"
         return f"texture {texture} isn't in texture memory: it has to be placed first, in {where}"
     if own.kind == "emit":
         return f"the registers that may not be in the card are those of {', '.join(groups_in(own.numbers[1]))}"

@@ -2,6 +2,7 @@
 
 from __future__ import annotations
 
+import math
 from dataclasses import dataclass, replace
 from typing import Callable, Iterator, Optional
 
@@ -13,13 +14,14 @@ from .svg import BAD, GOOD, INK, PALE, SHADE, Svg, width_of
 SERVER_COLOUR = "#5b6470"
 COLOURS = ("#2f6fb7", "#c7611a", "#2c8a57", "#8a4fb0", "#b0304f", "#7a6a1c", "#138a8f", "#555f9c")
 WHITE, TEXTURE_COLOUR = "#ffffff", "#f5d76e"
-LEFT, RIGHT, HEAD, MOST_LANES = 96, 34, 104, 6
+LEFT, RIGHT, HEAD, BELOW, MOST_LANES = 96, 34, 104, 26, 6
 LEAST_WIDTH, MOST_STRETCH = 1130, 1.5
 
 
 @dataclass(frozen=True)
 class Layout:
-    """Sizes in pixels: an entry's step, a lane, the bar of a hold in it, the room between strips; and entries of a strip."""
+    """Sizes in pixels: an entry's step, a lane, the bar of a hold in it, the room between strips. How many entries a strip has, and
+    whether each has a sign."""
 
     step: float
     lane: int
@@ -32,6 +34,16 @@ class Layout:
 ROOMY = Layout(step=17, lane=48, bar=22, between=64, entries=60, has_signs=True)
 NARROW = Layout(step=7, lane=26, bar=10, between=34, entries=150, has_signs=False)
 MOST_ROOMY_ENTRIES = 600
+
+
+def layout_for(total: int) -> Layout:
+    """Returns the layout for so many entries, above 0: with signs where there is room for them, in strips of one length that fill
+    the drawing's width, unless there are few entries."""
+    layout = ROOMY if total <= MOST_ROOMY_ENTRIES else NARROW
+    strips = math.ceil(total / layout.entries)
+    each = math.ceil(total / strips)
+    room = (LEAST_WIDTH - LEFT - RIGHT) / each
+    return replace(layout, entries=each, step=max(layout.step, min(room, layout.step * MOST_STRETCH)))
 
 
 @dataclass(frozen=True)
@@ -59,25 +71,20 @@ def colour_of_frame(frame: Frame) -> str:
 class Timeline:
     """Draws one course."""
 
-    def __init__(self, course: Course, layout: Layout):
-        self.course, self.layout = course, layout
+    def __init__(self, course: Course):
+        self.course = course
+        self.layout = layout_for(max(1, len(course.entries)))
         self.strips = list(self.cut())
-        # (a strip is as wide as the drawing, unless it has few entries)
-        room = (LEAST_WIDTH - LEFT - RIGHT) / max(1, self.strips[0].last)
-        self.layout = replace(layout, step=max(layout.step, min(room, layout.step * MOST_STRETCH)))
-        layout = self.layout
         below = self.strips[-1]
-        height = below.top + len(below.actors) * layout.lane + 26
-        width = max(LEFT + self.strips[0].last * layout.step + RIGHT, LEAST_WIDTH)
+        height = below.top + len(below.actors) * self.layout.lane + BELOW
+        width = max(LEFT + self.layout.entries * self.layout.step + RIGHT, LEAST_WIDTH)
         self.svg = Svg(width, height, "Who held the lock")
 
     def cut(self) -> Iterator[Strip]:
         """Cuts the entries into strips. With many clients a strip has lanes for those alone that do something in it."""
         total, top, all_actors = len(self.course.entries), float(HEAD), [SERVER, *self.course.scene.clients]
-        count = max(1, -(-total // self.layout.entries))
-        each = max(1, -(-total // count))
-        for first in range(1, max(total, 1) + 1, each):
-            last = min(total, first + each - 1)
+        for first in range(1, max(total, 1) + 1, self.layout.entries):
+            last = min(total, first + self.layout.entries - 1)
             busy = self.busy(first, last)
             actors = all_actors if len(all_actors) <= MOST_LANES else [it for it in all_actors if it == SERVER or it in busy]
             yield Strip(first, last, actors, top)
@@ -341,5 +348,5 @@ class Legend:
 
 
 def draw_timeline(course: Course) -> str:
-    """Returns the timeline of a course as SVG: with signs where there is room for them."""
-    return Timeline(course, ROOMY if len(course.entries) <= MOST_ROOMY_ENTRIES else NARROW).draw()
+    """Returns the timeline of a course as SVG."""
+    return Timeline(course).draw()
