@@ -32,11 +32,15 @@ def parser_of(doc: str, epilog: str = STATUSES) -> argparse.ArgumentParser:
     return argparse.ArgumentParser(name, usage, page, epilog, formatter_class=argparse.RawDescriptionHelpFormatter)
 
 
-def count_of(word: str) -> int:
-    """Reads a word that is a number above 0."""
-    if not (word.isascii() and word.isdigit() and int(word)):
-        raise argparse.ArgumentTypeError(f"{word!r} is no number above 0")
-    return int(word)
+def count_to(most: int = sys.maxsize) -> Callable[[str], int]:
+    """Returns a reader of words that are numbers from 1 to the greatest."""
+
+    def count(word: str) -> int:
+        if not (word.isascii() and word.isdigit() and 1 <= int(word) <= most):
+            raise argparse.ArgumentTypeError(f"{word!r} is no number from 1" + (f" to {most}" if most < sys.maxsize else " on"))
+        return int(word)
+
+    return count
 
 
 def bytes_of(path: str) -> bytes:
