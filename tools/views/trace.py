@@ -10,11 +10,18 @@ from .journal import SERVER
 from .timeline import hint_of, name_of
 
 ENTRY = 1000
-PROCESS = 1
-# The track of a client's frames is this much behind its own.
-FRAMES = 100
+PROCESS = 1000
 
 Event = dict[str, Any]
+
+
+def track_of(actor: int) -> int:
+    """Returns the number of an actor's track; tracks count from 1, and that of a client's frames stands right behind its own."""
+    return 2 * actor + 1
+
+
+def frames_of(client: int) -> int:
+    return track_of(client) + 1
 
 
 def slice_of(track: int, name: str, first: int, last: int, **more: Any) -> Event:
@@ -31,35 +38,42 @@ def slice_of(track: int, name: str, first: int, last: int, **more: Any) -> Event
 
 
 def tracks(course: Course) -> Iterator[Event]:
-    names = {SERVER: name_of(SERVER)}
+    names = {track_of(SERVER): name_of(SERVER)}
     for client in course.scene.clients:
-        names[client] = f"{name_of(client)}, window {course.window_of(client)}"
-        names[FRAMES + client] = f"{name_of(client)}'s frames"
-    for rank, (track, name) in enumerate(sorted(names.items(), key=lambda it: (it[0] % FRAMES, it[0]))):
+        names[track_of(client)] = f"{name_of(client)}, window {course.window_of(client)}"
+        names[frames_of(client)] = f"{name_of(client)}'s frames"
+    yield {"ph": "M", "pid": PROCESS, "tid": 0, "name": "process_name", "args": {"name": "the lock"}}
+    for track, name in names.items():
         yield {"ph": "M", "pid": PROCESS, "tid": track, "name": "thread_name", "args": {"name": name}}
-        yield {"ph": "M", "pid": PROCESS, "tid": track, "name": "thread_sort_index", "args": {"sort_index": rank}}
+        yield {"ph": "M", "pid": PROCESS, "tid": track, "name": "thread_sort_index", "args": {"sort_index": track}}
+
+
+def holds(course: Course) -> Iterator[Event]:
+    for hold in course.holds:
+        name = f"hold ({course.entries[hold.first - 1].kind})"
+        yield slice_of(track_of(hold.actor), name, hold.first, hold.last)
 
 
 def entries(course: Course) -> Iterator[Event]:
     for number, entry in enumerate(course.entries, 1):
         command = course.command(entry)
         name = command.kind if command else course.told(number) if entry.kind == "change" else str(entry)
-        yield slice_of(entry.actor, name, number, number, entry=number, told=hint_of(course, number))
+        yield slice_of(track_of(entry.actor), name, number, number, entry=number, told=hint_of(course, number))
         for window, stamp in course.stamps.get(number, {}).items():
-            for client in (it for it in course.scene.clients.values() if it.window == window):
+            for client in (it for it in course.scene.clients if course.window_of(it) == window):
                 name = f"window {window}: stamp {stamp}"
-                yield {"ph": "i", "s": "t", "pid": PROCESS, "tid": client.number, "name": name, "ts": number * ENTRY}
+                yield {"ph": "i", "s": "t", "pid": PROCESS, "tid": track_of(client), "name": name, "ts": number * ENTRY}
 
 
 def frames(course: Course) -> Iterator[Event]:
     for frame in course.frames:
         if frame.clear:
             name = f"frame {frame.number} {'stood' if frame.stood else 'did not stand'}"
-            yield slice_of(FRAMES + frame.client, name, frame.clear, frame.swap, told=course.fate(frame))
+            yield slice_of(frames_of(frame.client), name, frame.clear, frame.swap, told=course.fate(frame))
 
 
 def trace_of(course: Course) -> str:
-    holds = (slice_of(it.actor, "hold", it.first, it.last) for it in course.holds)
-    events = [*tracks(course), *holds, *entries(course), *frames(course)]
+    """Returns the trace as JSON, an event a line. A hold comes before its entries, which lie in it."""
+    events = [*tracks(course), *holds(course), *entries(course), *frames(course)]
     lines = ",\n".join(json.dumps(it) for it in events)
     return f'{{"displayTimeUnit": "ms", "traceEvents": [\n{lines}\n]}}\n'
