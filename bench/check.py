@@ -1,11 +1,15 @@
 #!/usr/bin/env python3
-"""Times 'check': of the journal of bench/scene.py against the 'turns' that writes it, and of a long journal.
+"""Times 'check': of the journal of bench/scene.py by the 'turns' that writes it, and of the longest journal.
 
-The long journal is the longest that a scene's limits allow, made here by the table of entries: 32 clients whose windows are
-covered and uncovered by each of 4,096 changes, so that each is told anew each time, with 100,000 commands. Behind its 828,384
-entries it goes on with entries that aren't legal, so a check of all 1,000,000 reads them all and names the first of those.
+'turns' draws and a check doesn't. So the check's time is divided by that of 'turns' on the scene of bench/scene.py --small,
+with as many clients, frames and changes: its drawing costs next to nothing. The check is of that scene's journal too, and
+'turns' on the scene at its full size stands beside it.
 
-For each check it prints the median seconds by the clock and by the processors, and the most memory in MB.
+The longest journal that a scene's limits allow is made here by the table of entries: 32 clients whose windows are covered and
+uncovered by each of 4,096 changes, so that each is told anew each time, with 100,000 commands. It has 828,384 entries, and all
+are replayed; what 1,000,000 would take is printed as that time in proportion.
+
+For each row it prints the median seconds by the clock and by the processors, and the most memory in MB.
 
 usage: bench/check.py [--times N] [--clients N]        10 times with 4 clients, where nothing else is given
 """
@@ -21,7 +25,7 @@ import time
 TOP = os.path.dirname(os.path.dirname(os.path.realpath(__file__)))
 CLIENTS, COMMANDS, CHANGES, ENTRIES = 32, 100_000, 4_096, 1_000_000
 COVER = CLIENTS + 1
-DONE, USAGE, NOT_A_RUN = 0, 1, 6
+DONE, USAGE = 0, 1
 
 
 def long_scene():
@@ -93,20 +97,22 @@ def main():
         print("skipped: the program doesn't know the word check")
         return 0
     print("| | clock | processors | MB |\n|---|---|---|---|")
-    scene = subprocess.run([f"{TOP}/bench/scene.py", str(given.clients)], stdout=subprocess.PIPE, check=True).stdout
-    journal = timed(program, "turns", scene)[2]
     name = f"{given.clients} clients"
-    turns = row(f"turns, {name}", program, "turns", scene, given.times, DONE)
-    check = row(f"check, {name}, {journal.count(10) - 2} entries", program, "check", scene + journal, given.times, DONE)
-    print("| check of turns | %.2f | %.2f | |" % (check[0] / turns[0], check[1] / turns[1]))
+    for words in (["--small"], []):
+        made = [f"{TOP}/bench/scene.py", str(given.clients), *words]
+        scene = subprocess.run(made, stdout=subprocess.PIPE, check=True).stdout
+        journal = timed(program, "turns", scene)[2]
+        size = "at a twentieth" if words else "at full size"
+        turns = row(f"turns, {name} {size}", program, "turns", scene, given.times, DONE)
+        entries = f"{journal.count(10) - 2} entries"
+        check = row(f"check, {name} {size}, {entries}", program, "check", scene + journal, given.times, DONE)
+        print("| check by turns, %s | %.2f | %.2f | |" % (size, check[0] / turns[0], check[1] / turns[1]))
     head, entries = "".join(long_scene()).encode(), "".join(long_journal()).encode()
     count = entries.count(10)
     whole = head + b"journal 1\n" + entries + b"done\n"
     right = b"entries %d frames 0 stood 0 whole\n" % count
-    row(f"check, {count:,} entries", program, "check", whole, given.times, DONE, right)
-    longer = head + b"journal 1\n" + entries + b"light 1\n" * (ENTRIES - count) + b"done\n"
-    wrong = b"dri: not a run: entry %d\n" % (count + 1)
-    row(f"check, {ENTRIES:,} entries, {count:,} of them legal", program, "check", longer, given.times, NOT_A_RUN, wrong)
+    longest = row(f"check, {count:,} entries", program, "check", whole, given.times, DONE, right)
+    print("| %s entries at that rate | %.3f | %.3f | |" % (f"{ENTRIES:,}", *(it * ENTRIES / count for it in longest[:2])))
     return 0
 
 
