@@ -93,6 +93,15 @@ const TEXTURED: &str = "\nset texmode replace\nset bind 1\n";
 const TEXTURED_FRAME: &str =
     "clear 000000 65535\ntriangle 0 0 0 ffffffff 0 0 64 0 0 ffffffff 0 0 0 64 0 ffffffff 0 0\nswap\n";
 
+const SCISSOR_JOURNAL: &str =
+    "journal 1\nkernel 1 1\nstale 1\nleave 1\ninfo 1\nkernel 1 1\nrun 1 1\nrun 1 2\nemit 1 127\nrun 1 3\nrun 1 4\nleave 1\ndone\n";
+
+const BLENDS_JOURNAL: &str =
+    "journal 1\nkernel 1 1\nstale 1\nleave 1\ninfo 1\nkernel 1 1\nrun 1 1\nrun 1 2\nemit 1 127\nrun 1 3\nrun 1 4\nemit 1 4\nrun 1 5\nrun 1 6\nleave 1\ndone\n";
+
+const TWO_TEXTURES_JOURNAL: &str =
+    "journal 1\nkernel 1 1\nstale 1\nleave 1\ninfo 1\nkernel 1 1\nrun 1 1\nrun 1 2\nrun 1 3\nplace 1 1 0 1\nemit 1 127\nrun 1 4\nrun 1 5\nleave 1\nkernel 2 2\nstale 2\nleave 2\ninfo 2\nkernel 2 1\nrun 2 1\nrun 2 2\nrun 2 3\nplace 2 1 0 1\nemit 2 127\nrun 2 4\nrun 2 5\nleave 2\nkernel 1 3\nrun 1 6\nplace 1 1 0 1\nemit 1 127\nrun 1 7\nrun 1 8\nleave 1\ndone\n";
+
 /// The parts of a text, each with how often it comes.
 type Text = &'static [(&'static str, u32)];
 
@@ -282,7 +291,7 @@ const FIRST_FRAME: &str =
 const SECOND_FRAME: &str = "run 1 3\nrun 1 4\nleave 1\ndone\n";
 
 /// Scenes with journals, and the reports of those that are runs; and the first entry that isn't legal of those that aren't.
-const JOURNALS: [Case; 9] = [
+const JOURNALS: [Case; 13] = [
     Case(
         CHECKED,
         &[(ROOT, 1), ("journal 1\ndone\n", 1)],
@@ -365,6 +374,54 @@ const JOURNALS: [Case; 9] = [
         [0, 0, 0],
         0,
         b"entries 17 frames 1 stood 1 whole\n",
+        "",
+    ),
+    Case(
+        CHECKED,
+        &[
+            (CLEARED, 1),
+            (TRIANGLE, 1),
+            (SWAPPED, 1),
+            (TRIANGLE_JOURNAL, 1),
+        ],
+        [0, 0, 0],
+        0,
+        b"entries 10 frames 1 stood 1 whole\n",
+        "",
+    ),
+    Case(
+        CHECKED,
+        &[(SCISSOR, 1), (SCISSOR_JOURNAL, 1)],
+        [0, 0, 0],
+        0,
+        b"entries 11 frames 1 stood 1 whole\n",
+        "",
+    ),
+    Case(
+        CHECKED,
+        &[(BLENDS, 1), (BLENDS_JOURNAL, 1)],
+        [0, 0, 0],
+        0,
+        b"entries 14 frames 1 stood 1 whole\n",
+        "",
+    ),
+    Case(
+        CHECKED,
+        &[
+            (TWO_TEXTURES, 1),
+            ("40", 256),
+            (TEXTURED, 1),
+            (TEXTURED_FRAME, 2),
+            ("end\nclient 2 2\ntexture 1 l8 16 16 ", 1),
+            ("80", 256),
+            (TEXTURED, 1),
+            (TEXTURED_FRAME, 1),
+            ("end\ndone\n", 1),
+            (TWO_TEXTURES_JOURNAL, 1),
+        ],
+        [0, 0, 0],
+        0,
+        b"entries 33 frames 3 stood 3 whole\n",
         "",
     ),
 ];
