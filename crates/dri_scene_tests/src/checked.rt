@@ -6,10 +6,15 @@ use std::process::Abort;
 use std::test::Fail;
 
 /// One client with two frames on a screen of two pixels.
-const SCENE: &[u8] =
+pub(crate) const SCENE: &[u8] =
     b"dri 1\nscreen 2 1 000000\nheap 1 256\nwindow 1 0 0 2 1 111111 1 up\nclient 1 1\nclear ff0000 65535\nswap\nclear 0000ff 65535\nswap\nend\ndone\n";
 
-fn report(entries: u32, frames: u32, stood: u32, whole: bool) -> Result<Report, CheckFault> {
+pub(crate) fn report(
+    entries: u32,
+    frames: u32,
+    stood: u32,
+    whole: bool,
+) -> Result<Report, CheckFault> {
     Ok(Report {
         entries,
         frames,

@@ -4,6 +4,8 @@
 #[cfg(test)]
 mod checked;
 #[cfg(test)]
+mod damaged;
+#[cfg(test)]
 mod journal;
 #[cfg(test)]
 mod picture;

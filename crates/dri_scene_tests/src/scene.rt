@@ -43,7 +43,7 @@ fn read_and_printed(rt: HostRuntime) -> Result<(), Fail> {
 }
 
 /// The line at which a text that ends too early is refused.
-fn line_of_end(text: &[u8]) -> u32 {
+pub(crate) fn line_of_end(text: &[u8]) -> u32 {
     let mut line = 1;
     for byte in text {
         if *byte == b'\n' && line < 1000 {
