@@ -10,6 +10,8 @@ from .journal import Entry, groups_in, journal_text
 from .program import Program, Report, dies
 from .scene import Scene
 
+NO_REASON = "it isn't legal there"
+
 
 def fault_of(standing: Standing, entry: Entry) -> Optional[str]:
     """Returns why an entry isn't legal in what stands before it, as far as that is seen without the card and texture memory."""
@@ -85,7 +87,7 @@ def fault_beside(entry: Entry, legal: list[Entry]) -> str:
     """Returns why an entry isn't legal where these are: what is seen of the card and of texture memory alone."""
     own = next((it for it in legal if it.client == entry.client and it.kind != "gone"), None)
     if own is None:
-        return "it isn't legal there"
+        return NO_REASON
     if own.kind == "place":
         _, texture, first, count = own.numbers
         where = f"regions {first} to {first + count - 1}" if count > 1 else f"region {first}"

@@ -2,7 +2,7 @@
 
 from __future__ import annotations
 
-from dataclasses import dataclass
+from dataclasses import dataclass, field
 from typing import Optional
 
 from .texts import Forms, Lines, Refused
@@ -29,11 +29,12 @@ GROUPS = ("shade", "depth", "blend", "texmode", "wrap", "bind", "scissor")
 
 @dataclass(frozen=True)
 class Entry:
-    """An entry of a journal: its word and its numbers, and the line of the text where it stands (0 where it stands in none)."""
+    """An entry of a journal: its word and its numbers. The line of the text where it stands (0 where it stands in none) tells no
+    entries apart."""
 
     kind: str
     numbers: tuple[int, ...]
-    line: int = 0
+    line: int = field(default=0, compare=False)
 
     @property
     def client(self) -> Optional[int]:

@@ -104,7 +104,7 @@ class Program:
         """Returns what a client that holds the lock after these entries of a run does at its next turn."""
         scene = stopped(scene, entries)
         ended = self.done(["turns"], replace(scene, schedule=[*scene.schedule, Item(client)]).text())
-        return replace(read_journal(ended.notes)[len(entries)], line=0)
+        return read_journal(ended.notes)[len(entries)]
 
     def screen_after(self, scene: Scene, entries: list[Entry], count: int) -> Picture:
         """Returns what the screen shows after so many entries of a run: of a scene that goes no further."""
