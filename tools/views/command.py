@@ -28,7 +28,7 @@ def parser_of(doc: str, epilog: str = STATUSES) -> argparse.ArgumentParser:
     head, _, rest = doc.partition("usage: ")
     usage, _, more = rest.partition("\n\n")
     name = f"tools/{os.path.basename(sys.argv[0])}"
-    page = f"{head.strip()}\n\n{more.strip()}"
+    page = "\n\n".join((head.strip(), more.strip("\n")))
     return argparse.ArgumentParser(name, usage, page, epilog, formatter_class=argparse.RawDescriptionHelpFormatter)
 
 
