@@ -14,6 +14,10 @@
 #define CELL 512
 #define CELLS_ACROSS 20
 #define CELLS_DOWN 15
+#define TEXTURES 3
+#define FRAMES 20
+#define LEFT 61
+#define TOP 43
 
 enum { FLAT, SMOOTH };
 enum { ALWAYS, LESS, LESS_EQUAL };
@@ -29,7 +33,7 @@ typedef struct { const uint8_t *texels; uint32_t width, height; } image;
 
 static uint32_t back[WIDTH * HEIGHT], front[WIDTH * HEIGHT];
 static uint16_t depths[WIDTH * HEIGHT];
-static uint8_t texels[SIDE * SIDE];
+static uint8_t texels[SIDE * SIDE], bound[TEXTURES][SIDE * SIDE];
 static volatile uint32_t texture_side = SIDE;
 static unsigned char *bytes;
 
@@ -186,6 +190,31 @@ static int grid(triangle *ts, int across, int down) {
     return count;
 }
 
+static int slivers(triangle *ts) {
+    int count = 0;
+    for (int column = 0; column < CELLS_ACROSS; column++) ts[count++] = right_angle(CELL * column, 0, 6, 16 * HEIGHT);
+    return count;
+}
+
+/* A corner in the client's window. */
+static vertex in_window(int x, int y, int z, int r, int s, int t) {
+    return (vertex){16 * LEFT + x, 16 * TOP + y, z, r, 255, r, 255, s, t};
+}
+
+/* A frame of the load of one client. */
+static void draw_frame(int n) {
+    const rect window = {LEFT, TOP, LEFT + WINDOW_RIGHT / 16, TOP + WINDOW_BOTTOM / 16};
+    const int last = 16 * SIDE - 1;
+    image texture = {bound[(n - 1) % TEXTURES], texture_side, texture_side};
+    triangle ts[2] = {
+        {in_window(0, 0, 1000, 255, 0, 0), in_window(WINDOW_RIGHT, 0, 1000, 255, last, 0), in_window(0, WINDOW_BOTTOM, 1000, 255, 0, last)},
+        {in_window(WINDOW_RIGHT, 16 * n, 500, 128, 0, 0), in_window(WINDOW_RIGHT, WINDOW_BOTTOM, 500, 128, last, 0), in_window(0, WINDOW_BOTTOM, 500, 128, 0, last)},
+    };
+    clear(window, packed(10 * n, 7, 0), 65535);
+    draw(ts, 2, &texture, window, (rules){FLAT, LESS, 1, OPAQUE, MODULATED});
+    swap(window);
+}
+
 static uint64_t sum(void) {
     uint64_t all = 0;
     for (int k = 0; k < WIDTH * HEIGHT; k++) all = all * 31 + (back[k] + 7 * (uint64_t)depths[k] + 11 * (uint64_t)front[k]);
@@ -197,11 +226,15 @@ int main(int argc, char **argv) {
     const char *part = argv[1];
     long times = atol(argv[2]);
     static triangle ts[CELLS_ACROSS * CELLS_DOWN];
-    rect whole = {0, 0, WIDTH, HEIGHT}, window = {0, 0, 280, 220};
+    rect whole = {0, 0, WIDTH, HEIGHT};
     image texture = {texels, texture_side, texture_side};
     rules flat = {FLAT, ALWAYS, 0, OPAQUE, PLAIN}, by = flat;
     int count = 0;
-    for (int y = 0; y < SIDE; y++) for (int x = 0; x < SIDE; x++) texels[SIDE * y + x] = x * y % 256;
+    for (int y = 0; y < SIDE; y++)
+        for (int x = 0; x < SIDE; x++) {
+            texels[SIDE * y + x] = x * y % 256;
+            for (int k = 0; k < TEXTURES; k++) bound[k][SIDE * y + x] = (x * (k + 1) + y) % 256;
+        }
     clear(whole, packed(10, 20, 30), 65535);
     int is_clear = !strcmp(part, "clear"), is_swap = !strcmp(part, "swap"), is_load = !strcmp(part, "load");
     if (!strcmp(part, "flat")) count = window_halves(ts);
@@ -212,13 +245,13 @@ int main(int argc, char **argv) {
     else if (!strcmp(part, "tiny")) count = grid(ts, 48, 48);
     else if (!strcmp(part, "row")) count = grid(ts, 256, 16);
     else if (!strcmp(part, "nothing")) count = grid(ts, 6, 6);
-    else if (is_load) { count = window_halves(ts); by = (rules){FLAT, LESS, 1, OPAQUE, MODULATED}; }
-    else if (!is_clear && !is_swap) return 2;
+    else if (!strcmp(part, "sliver")) count = slivers(ts);
+    else if (!is_clear && !is_swap && !is_load) return 2;
     bytes = malloc(5 * WIDTH * HEIGHT);
     for (long n = 0; n < times; n++) {
         if (is_clear) { memset(bytes, (int)n, 5 * WIDTH * HEIGHT); __asm__ volatile("" : : "r"(bytes) : "memory"); }
         else if (is_swap) { swap(whole); __asm__ volatile("" : : : "memory"); }
-        else if (is_load) { clear(window, packed(10, 20, 30), 65535); draw(ts, count, &texture, whole, by); swap(window); }
+        else if (is_load) draw_frame(n % FRAMES + 1);
         else draw(ts, count, &texture, whole, by);
     }
     if (is_clear) clear(whole, packed(10, 20, 30), 65535);

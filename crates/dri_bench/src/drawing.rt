@@ -1,9 +1,9 @@
-//! The card's drawing: triangles of some kinds, a clear and a swap on a screen of 640 by 480, and the load of one client in a
-//! window of 280 by 220.
+//! The card's drawing on a screen of 640 by 480: triangles of some kinds, a clear, a swap, and the load of one client.
 
 ghost use Rattle.std.specs.Prelude.{◌≡◌, ◌≤◌, ◌+◌};
 ghost use Rattle.dri_base.specs.Ranges.{TriangleInRange, VertexInRange};
 
+use crate::load;
 use dri_base::{
     Changes, Clients, ClipRect, Items, Point, Rgb, Rgba, Scene, Steps, Triangle, Vertex, Windows,
 };
@@ -32,7 +32,7 @@ const CELLS_DOWN: u16 = 15;
 /// The side of the texture, in texels.
 const SIDE: u16 = 64;
 
-/// The bytes of texture memory.
+/// The bytes of the texture.
 const MEMORY: usize = 4096;
 
 const BACKGROUND: Rgb = Rgb {
@@ -52,6 +52,7 @@ pub enum Work {
     Tiny,
     Row,
     Nothing,
+    Sliver,
     Clear,
     Swap,
     Load,
@@ -69,6 +70,7 @@ impl Work {
             "tiny" => Some(Work::Tiny),
             "row" => Some(Work::Row),
             "nothing" => Some(Work::Nothing),
+            "sliver" => Some(Work::Sliver),
             "clear" => Some(Work::Clear),
             "swap" => Some(Work::Swap),
             "load" => Some(Work::Load),
@@ -82,7 +84,6 @@ impl Work {
             Work::Smooth => (1, 7, 0, 0, 0),
             Work::Blended => (1, 7, 0, 1, 0),
             Work::Textured | Work::Cells => (0, 3, 1, 0, 2),
-            Work::Load => (0, 1, 1, 0, 2),
             _ => (0, 7, 0, 0, 0),
         };
         [
@@ -107,11 +108,12 @@ impl Work {
     /// Its triangles.
     fn buffer(self) -> Buffer {
         match self {
-            Work::Clear | Work::Swap => Buffer::new(),
+            Work::Clear | Work::Swap | Work::Load => Buffer::new(),
             Work::Cells => grid(256, 256),
             Work::Tiny => grid(48, 48),
             Work::Row => grid(256, 16),
             Work::Nothing => grid(6, 6),
+            Work::Sliver => slivers(),
             _ => window_halves(),
         }
     }
@@ -196,13 +198,22 @@ fn grid(across: u16, down: u16) -> Buffer
     buffer
 }
 
+/// Triangles from the top of the screen to its bottom, so thin that they cover nothing.
+fn slivers() -> Buffer {
+    let mut buffer = Buffer::new();
+    for column in 0..CELLS_ACROSS {
+        let _ = buffer.push_triangle(&right_angle(CELL * column, 0, 6, 16 * HEIGHT));
+    }
+    buffer
+}
+
 /// A screen without a window.
 fn scene(alloc: Global) -> Scene {
     Scene {
         width: u32::from(WIDTH),
         height: u32::from(HEIGHT),
         root: Rgb { r: 0, g: 0, b: 0 },
-        regions: 1,
+        regions: 16,
         region_size: 4096,
         windows: Windows::new(alloc),
         clients: Clients::new(alloc),
@@ -261,15 +272,23 @@ pub fn run(alloc: Global, work: Work, times: u32) -> Option<u64> {
         return None;
     }
     let mut card = Card::new(alloc, &scene).ok()?;
+    match work {
+        Work::Load => load::prepare(alloc, &mut card)?,
+        _ => prepare(alloc, &mut card, work)?,
+    }
+    repeat::<Brand>(&mut card, work, times, Blank::new(1))?;
+    Some(sum(&card))
+}
+
+/// Makes a card ready for the work.
+fn prepare(alloc: Global, card: &mut Card, work: Work) -> Option<()> {
     let texels = texels(alloc)?;
     if texels.len() > MEMORY {
         return None;
     }
     card.upload(0, texels.as_slice()).ok()?;
     card.load_registers(&work.words()).ok()?;
-    card.set_clip(rect(WIDTH, HEIGHT)).ok()?;
-    repeat::<Brand>(&mut card, work, times, Blank::new(1))?;
-    Some(sum(&card))
+    card.set_clip(rect(WIDTH, HEIGHT)).ok()
 }
 
 /// Nobody asks for the steps.
@@ -279,19 +298,17 @@ fn repeat<L: Ledger>(card: &mut Card, work: Work, times: u32, blank: Blank) -> O
     requires one { L.parts ≡ 1 }
 {
     let mut steps = Steps::<L>::new(blank);
-    let (screen, window) = (rect(WIDTH, HEIGHT), rect(RIGHT / 16, BOTTOM / 16));
+    let screen = rect(WIDTH, HEIGHT);
     let buffer = work.buffer();
     let origin = Point { x: 0, y: 0 };
     card.clear(screen, BACKGROUND, 65_535, &mut steps).ok()?;
+    if work == Work::Load {
+        return load::draw(card, times, &mut steps);
+    }
     for _ in 0..times {
         match work {
             Work::Clear => card.clear(screen, BACKGROUND, 65_535, &mut steps).ok()?,
             Work::Swap => card.swap(screen, &mut steps).ok()?,
-            Work::Load => {
-                card.clear(window, BACKGROUND, 65_535, &mut steps).ok()?;
-                card.dispatch(&buffer, origin, &mut steps).ok()?;
-                card.swap(window, &mut steps).ok()?;
-            }
             _ => card.dispatch(&buffer, origin, &mut steps).ok()?,
         }
     }
