@@ -1,7 +1,10 @@
 //! The worked triangles.
 
-ghost use Rattle.std.specs.Prelude.{◌≡◌};
+ghost use Rattle.std.specs.Prelude.{◌≡◌, ◌≤ℤ◌, ◌<ℤ◌, neg_ℤ, pos};
+ghost use Rattle.dri_base.specs.Coverage.{area, centre, turned, weighed};
 ghost use Rattle.dri_base.specs.Ranges.{IsVertexPlace, TriangleInRange, VertexInRange};
+ghost use Rattle.dri_raster.specs.Walks.{IsNear};
+ghost use Rattle.dri_card_tests.specs.Largest.{largest};
 
 use dri_base::{Point, Rect, Rgba, Triangle, Vertex};
 use dri_raster::{Channel, Setup, Span, common_edge, covered_is_amid};
@@ -84,9 +87,16 @@ fn halves(rt: HostRuntime) -> Result<(), Fail> {
     Ok(())
 }
 
+/// Of the largest triangle: twice its area, and the sum of its depths at the centre of the pixel (-1, -1) before it is divided.
+fn largest_numbers()
+    ensures doubled { area largest ≡ pos 4294836225 }
+    ensures sum { weighed (turned largest) (λ v. v.z) (centre (neg_ℤ (pos 1)) (neg_ℤ (pos 1))) ≡ pos 281462092005375 }
+{}
+
 /// The largest triangle, at a pixel of its middle.
 #[test]
 fn largest(rt: HostRuntime) {
+    largest_numbers();
     let triangle = Triangle {
         a: corner(-32768, -32768),
         b: corner(32767, -32768),
@@ -168,8 +178,38 @@ fn triangle<R: Abort>(rt: &R, places: [(i32, i32); 3]) -> Triangle
     }
 }
 
+/// Whether the span of row y in a rectangle has exactly the columns that the triangle covers there, asked one by one.
+fn is_row_span(setup: &Setup, rect: &Rect, y: i32) -> bool
+    requires rect { IsNear rect.now }
+    requires y { (rect.now.y1 ≤ℤ y) × (y <ℤ rect.now.y2) }
+{
+    let span = setup.span(y, rect).unwrap_or(Span {
+        x1: rect.x1,
+        x2: rect.x1,
+    });
+    for x in rect.x1..rect.x2 {
+        if setup.covers(x, y) != (span.x1 <= x && x < span.x2) {
+            return false;
+        }
+    }
+    true
+}
+
+/// Whether so is the span of each row.
+fn are_row_spans(setup: &Setup, rect: &Rect) -> bool
+    requires { IsNear rect.now }
+{
+    for y in rect.y1..rect.y2 {
+        if !is_row_span(setup, rect, y) {
+            return false;
+        }
+    }
+    true
+}
+
 /// How many pixels odd triangles cover: of the square, one a pixel wide, one of a row, and those that lie wholly left, right,
-/// above and below; of the middle, one whose corners are as far apart as can be.
+/// above and below; of the middle, one whose corners are as far apart as can be. Their spans are what they cover, pixel by
+/// pixel.
 #[test]
 fn odd(rt: HostRuntime) -> Result<(), Fail> {
     for (places, in_square, in_middle) in [
@@ -186,6 +226,8 @@ fn odd(rt: HostRuntime) -> Result<(), Fail> {
         let middle: Vec<Point> = setup.for_rect(&MIDDLE).collect(rt.alloc())?;
         assert_eq!(rt; square.len(), in_square);
         assert_eq!(rt; middle.len(), in_middle);
+        assert!(rt; are_row_spans(&setup, &SQUARE));
+        assert!(rt; are_row_spans(&setup, &MIDDLE));
     }
     Ok(())
 }
