@@ -2,11 +2,9 @@
 use Rattle.std.proofs.Common.{◌≡◌, ℕ, ◌⊎◌, List, Result, Ok, Err, refl, sym, subst, inl, inr}
 use Rattle.std.specs.declared.option.Option.{Option}
 use Rattle.dri_base.specs.Ranges.{InRange}
-use Rattle.dri_io.specs.Causes.{Rose}
 use Rattle.dri_journal.specs.declared.answer.Report.{Report}
 use Rattle.dri_run.specs.CheckedRun.{GivesReport, HasNoReport, IsCheckAnswer, IsJudged, IsReportDecided, IsReportOf, ReadsReport}
-use Rattle.dri_run.specs.Gains.{Sunk}
-use Rattle.dri_run.specs.Outcome.{AreTaken, Runs}
+use Rattle.dri_run.specs.Outcome.{AreTaken}
 use Rattle.dri_run.specs.Recordings.{HasNoRecording, IsDecided, IsRecordingOf, IsRefusalOf}
 use Rattle.dri_run.specs.declared.recording.Recording.{Recording}
 use Rattle.dri_run.specs.declared.status.Status.{Status}
@@ -66,25 +64,6 @@ judged_decided (Err (answers.Refused line reason)) recording bytes in_range text
 judged_decided (Err answers.TooLong) recording bytes in_range text wrong = absurd wrong
 judged_decided (Err answers.ReadFault) recording bytes in_range text wrong = absurd wrong
 judged_decided (Err answers.WriteFault) recording bytes in_range text wrong = absurd wrong
-
--- a judgement isn't a fault of the source
-pub judged_no_fault : (status : Status) (recording : Recording) → IsJudged (Err status) recording → status ≡ answers.ReadFault → ⊥
-judged_no_fault status recording judged is = subst (λ s. IsJudged (Err s) recording) is judged
-
--- where no count rose, the report was written
-pub written_decides : (status : Status) (report : Report) (bytes : List ℕ) (picture notes : Sunk) → IsReportDecided (Ok report) bytes → Runs GivesReport status report picture notes →
-    (Rose picture.before picture.now → ⊥) → (Rose notes.before notes.now → ⊥) → IsCheckAnswer status bytes ⊎ (status ≡ answers.OutOfMemory)
-written_decides answers.Done report bytes picture notes decided ran calm quiet = inl (decided.0, (report, decided.1))
-written_decides answers.WriteFault report bytes picture notes decided ran calm quiet = elim ran.written as (λ _. IsCheckAnswer answers.WriteFault bytes ⊎ (answers.WriteFault ≡ answers.OutOfMemory)) [
-  | inl failed ↦ absurd (calm failed.0.rose)
-  | inr failed ↦ absurd (quiet failed.1.rose)
-]
-written_decides answers.OutOfMemory report bytes picture notes decided ran calm quiet = inr refl
-written_decides answers.Usage report bytes picture notes decided wrong calm quiet = absurd wrong
-written_decides (answers.Refused line reason) report bytes picture notes decided wrong calm quiet = absurd wrong
-written_decides answers.TooLong report bytes picture notes decided wrong calm quiet = absurd wrong
-written_decides answers.ReadFault report bytes picture notes decided wrong calm quiet = absurd wrong
-written_decides (answers.NotARun entry) report bytes picture notes decided wrong calm quiet = absurd wrong
 
 -- where the sinks take the report, it was written
 pub taken_decides : (status : Status) (report : Report) (bytes : List ℕ) (picture notes : ℕ → Type 0) → IsReportDecided (Ok report) bytes → (AreTaken GivesReport picture notes report → status ≡ answers.Done) →

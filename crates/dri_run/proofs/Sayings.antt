@@ -1,6 +1,7 @@
 -- A reading of a text and a run of what it spells make an answer.
-use Rattle.std.proofs.Common.{◌≡◌, ℕ, ◌⊎◌, List, Option, Ok, sym, ◌∙◌, inl, inr}
+use Rattle.std.proofs.Common.{◌≡◌, ℕ, ◌⊎◌, List, Option, Ok, refl, sym, ◌∙◌, inl, inr}
 use Rattle.dri_base.specs.declared.scene.Scene.{Scene}
+use Rattle.dri_io.specs.Causes.{Rose}
 use Rattle.dri_scene.specs.Readings.{scene_of}
 use Rattle.dri_run.specs.Gains.{Sunk}
 use Rattle.dri_run.specs.Outcome.{AreTaken, IsDecided, Runs, SaysOf, answer_to}
@@ -25,3 +26,18 @@ taken_ran Gives status scene bytes picture notes decided ran taken = elim (ran (
   | inl done ↦ inl (done ∙ sym decided.1)
   | inr short ↦ inr short
 ]
+
+-- where no count rose, what was read was written, and `Done` is the answer
+pub written_decides : {A : Type 0} (Gives : A → List ℕ → List ℕ → Type 0) (Answer : Status → Type 0) (status : Status) (input : A) (picture notes : Sunk) → Answer answers.Done → Runs Gives status input picture notes →
+    (Rose picture.before picture.now → ⊥) → (Rose notes.before notes.now → ⊥) → Answer status ⊎ (status ≡ answers.OutOfMemory)
+written_decides Gives Answer answers.Done input picture notes done ran calm quiet = inl done
+written_decides Gives Answer answers.WriteFault input picture notes done ran calm quiet = elim ran.written as (λ _. Answer answers.WriteFault ⊎ (answers.WriteFault ≡ answers.OutOfMemory)) [
+  | inl failed ↦ absurd (calm failed.0.rose)
+  | inr failed ↦ absurd (quiet failed.1.rose)
+]
+written_decides Gives Answer answers.OutOfMemory input picture notes done ran calm quiet = inr refl
+written_decides Gives Answer answers.Usage input picture notes done wrong calm quiet = absurd wrong
+written_decides Gives Answer (answers.Refused line reason) input picture notes done wrong calm quiet = absurd wrong
+written_decides Gives Answer answers.TooLong input picture notes done wrong calm quiet = absurd wrong
+written_decides Gives Answer answers.ReadFault input picture notes done wrong calm quiet = absurd wrong
+written_decides Gives Answer (answers.NotARun entry) input picture notes done wrong calm quiet = absurd wrong

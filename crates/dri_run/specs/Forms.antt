@@ -4,9 +4,20 @@ use Rattle.std.specs.Str.{bytes_eq}
 use Rattle.std.specs.String.{string_bytes}
 use Rattle.std.specs.declared.string.String.{String}
 use Rattle.std.specs.declared.alloc.Global.{Global}
+use Rattle.dri_base.specs.Limits.{most_commands}
+use Rattle.dri_words.specs.Parts.{parts_at}
+use Rattle.dri_words.specs.Ranges.{within}
+use Rattle.dri_words.specs.Words.{◌>>=◌, alone, number_at}
 use Rattle.dri_run.specs.declared.form.Form.{Form}
-use Rattle.dri_run.specs.declared.form.Form.TheVariants.{Scheduled, Check}
+use Rattle.dri_run.specs.declared.form.Form.TheVariants.{Scheduled, Check, Solo, Make}
 use Rattle.dri_run.specs.declared.form.Shown.TheVariants.{Turns, Sarea}
+
+-- the number from low to high that a word spells, as a text has it: without leading zeros
+abbrev pub number_in : ℕ → ℕ → List ℕ → Option ℕ
+number_in low high word = do
+  read ← number_at (parts_at 32 word)
+  number ← alone read.0 read.1
+  within low high number
 
 -- the form of one word
 abbrev pub form_of_word : List ℕ → Option Form
@@ -16,11 +27,20 @@ form_of_word word =
     else if bytes_eq word (codes "check") then Some Check
     else None
 
--- the form of these words: each is one word alone
+-- a scene of so many clients is made
+abbrev pub make_form : List ℕ → Option Form
+make_form count = number_in 1 32 count >>= λ n. Some (Make n)
+
+-- a client and its frame; there are no more frames than commands
+abbrev pub solo_form : List ℕ → List ℕ → Option Form
+solo_form client frame = number_in 1 32 client >>= λ c. number_in 1 most_commands frame >>= λ k. Some (Solo c k)
+
+-- the form of these words: one word alone, or one with its numbers behind it
 abbrev pub form_of_words : List (List ℕ) → Option Form
-form_of_words [] = None
 form_of_words (word ∷ []) = form_of_word word
-form_of_words (word ∷ other ∷ words) = None
+form_of_words (word ∷ count ∷ []) = if bytes_eq word (codes "make") then make_form count else None
+form_of_words (word ∷ client ∷ frame ∷ []) = if bytes_eq word (codes "solo") then solo_form client frame else None
+form_of_words _ = None
 
 -- the form of the words of a command line
 abbrev pub form_of : List (String Global) → Option Form

@@ -6,4 +6,7 @@ pub mod Recordings
 pub mod CheckedRun
 pub mod ScheduledRun
 pub mod ThreadedRun
+pub mod MadeScene
+pub mod FrameAlone
+pub mod FrameShown
 pub mod Answering

@@ -14,8 +14,8 @@ use Rattle.dri_run.specs.declared.status.Status.{Status}
 use Rattle.dri_run.specs.declared.status.Status.TheVariants as answers
 
 -- how many bytes a scene's text may have
-abbrev pub most : ℕ
-most = 16777216
+abbrev pub most_text : ℕ
+most_text = 16777216
 
 -- the bytes were read whole, within a limit
 pub record IsReadWithin (limit : ℕ) (given : List ℕ) (left : Option (List ℕ)) : Type 0 where
@@ -24,7 +24,7 @@ pub record IsReadWithin (limit : ℕ) (given : List ℕ) (left : Option (List �
 
 -- the bytes were read whole, within the limit of a scene's text
 abbrev pub IsRead : List ℕ → Option (List ℕ) → Type 0
-IsRead given left = IsReadWithin most given left
+IsRead given left = IsReadWithin most_text given left
 
 -- the bytes that were given, or why they weren't read whole
 abbrev pub ReadsBytes : ℕ → Result (List ℕ) Status → List ℕ → Option (List ℕ) → Type 0
@@ -53,8 +53,8 @@ pub record IsRefused (line : ℕ) (reason : Reason) (given : List ℕ) (left : O
 -- why the bytes that were given have no scene
 abbrev pub HasNoScene : Status → List ℕ → Option (List ℕ) → Type 0
 HasNoScene (answers.Refused line reason) given left = IsRefused line reason given left
-HasNoScene answers.TooLong given left = most < length given
-HasNoScene answers.ReadFault given left = length given ≤ most
+HasNoScene answers.TooLong given left = most_text < length given
+HasNoScene answers.ReadFault given left = length given ≤ most_text
 HasNoScene answers.OutOfMemory given left = Unit {0}
 HasNoScene _ given left = ⊥
 
@@ -120,7 +120,7 @@ answer_to_text (Err refusal) = answers.Refused refusal.line refusal.reason
 
 -- the answer to all the bytes of a source where nothing fails
 abbrev pub answer_to : List ℕ → Status
-answer_to bytes = if nat_lt most (length bytes) then answers.TooLong else answer_to_text (scene_of bytes)
+answer_to bytes = if nat_lt most_text (length bytes) then answers.TooLong else answer_to_text (scene_of bytes)
 
 -- a reading where nothing fails, want of memory aside
 abbrev pub IsDecided : Result Scene Status → List ℕ → Type 0

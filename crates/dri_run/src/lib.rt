@@ -1,9 +1,11 @@
-//! The top calls: from the words of the command line and the text of a scene, or of a scene and a journal, to the picture,
-//! the notes and a status.
+//! The top calls: from the words of the command line and what they read, the text of a scene, or of a scene and a journal, or
+//! nothing, to the picture, the notes and a status.
 #![tactic(auto)]
 
+mod alone;
 mod checked;
 mod form;
+mod made;
 mod notice;
 mod output;
 mod reading;
@@ -15,6 +17,7 @@ mod top;
 mod top_threads;
 mod writing;
 
+pub use alone::solo_is_shown;
 pub use checked::turns_are_accepted;
 pub use form::is_run;
 pub use status::Status;

@@ -20,7 +20,7 @@ use std::alloc::Global;
 use std::sync::Arc;
 
 /// Runs a scene.
-fn run(alloc: Global, scene: &Arc<Scene, Global>) -> Result<World, OutOfMemory>
+pub fn run(alloc: Global, scene: &Arc<Scene, Global>) -> Result<World, OutOfMemory>
     requires { InRange (arc_value scene.now) }
     ensures scene { IfOk result (λ w. w.scene ≡ arc_value scene.now) }
     ensures run { IfOk result (λ w. IsRunOf w.scene w.events) }
@@ -28,6 +28,7 @@ fn run(alloc: Global, scene: &Arc<Scene, Global>) -> Result<World, OutOfMemory>
     let mut world = World::new(alloc, scene.clone()?)?;
     world.run_schedule(alloc)?;
     world.finish(alloc)?;
+    // What holds of the world's events is told by this call alone.
     let _events = world.events();
     Ok(world)
 }

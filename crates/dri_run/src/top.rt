@@ -5,19 +5,22 @@ ghost use Rattle.std.specs.Io.KnownBytes.{Consumes};
 ghost use Rattle.std.specs.declared.option.Option.{Option};
 ghost use Rattle.dri_io.specs.Causes.{Rose};
 ghost use Rattle.dri_run.specs.declared.form.Form.{Form};
+ghost use Rattle.dri_run.specs.declared.form.Form.TheVariants.{Make};
 ghost use Rattle.dri_run.specs.Forms.{form_of};
 ghost use Rattle.dri_run.specs.Gains.{GainsAll};
 ghost use Rattle.dri_run.specs.Notices.{line_of};
 ghost use Rattle.dri_run.specs.Outcome.{Answers, AreTaken, Runs, Says, answer_to};
-ghost use Rattle.dri_run.specs.Answering.{IsAnswerTo, SaysTo, TakesAllOf};
+ghost use Rattle.dri_run.specs.Answering.{IsAnswerTo, ReadsNothing, SaysTo, TakesAllOf};
 ghost use Rattle.dri_run.specs.ScheduledRun.{GivesByForm};
 ghost use Rattle.dri_scene.specs.Readings.{scene_of};
 ghost use Rattle.dri_base.specs.declared.scene.Scene.{Scene};
 ghost use Rattle.dri_base.specs.Ranges.{InRange};
 
 use crate::Status;
+use crate::alone::obey_solo;
 use crate::checked::obey_check;
 use crate::form::{Form, Shown, form_of};
+use crate::made::obey_make;
 use crate::output::output_of;
 use crate::reading::read;
 use crate::writing::{tell, write_output};
@@ -87,7 +90,7 @@ fn answer<S: Source, P: Sink, N: Sink>(
     notes: &mut N,
 ) -> Status
     ensures usage { (result ≡ Status.Usage) ↔ (form_of words.now ≡ None) }
-    ensures unread { result ≡ Status.Usage → input.new ≡ input.old }
+    ensures unread { ReadsNothing (form_of words.now) → input.new ≡ input.old }
     ensures says { (given : List ℕ) × Consumes (S.left input.old) (S.left input.new) given
         × SaysTo (form_of words.now) result given (S.left input.new)
         (record { held = P.held picture.old; holds = P.held picture.new; before = P.faults picture.old; now = P.faults picture.new })
@@ -103,10 +106,17 @@ fn answer<S: Source, P: Sink, N: Sink>(
         → (S.gives_all input.old ⊎ (Rose (S.faults input.old) (S.faults input.new) → ⊥))
         → TakesAllOf form bytes (P.takes picture.old) (N.takes notes.old)
         → IsAnswerTo form bytes result ⊎ (result ≡ Status.OutOfMemory) }
+    ensures made { (n : ℕ) → form_of words.now ≡ Some (Make n)
+        → (Rose (P.faults picture.old) (P.faults picture.new) → ⊥) → (Rose (N.faults notes.old) (N.faults notes.new) → ⊥)
+        → (result ≡ Status.Done) ⊎ (result ≡ Status.OutOfMemory) }
 {
     match form_of(words) {
         Some(Form::Scheduled(shown)) => obey(alloc, shown, input, picture, notes),
         Some(Form::Check) => obey_check(alloc, input, picture, notes),
+        Some(Form::Solo { client, frame }) => {
+            obey_solo(alloc, client, frame, input, picture, notes)
+        }
+        Some(Form::Make { clients }) => obey_make(alloc, clients, picture, notes),
         None => Status::Usage,
     }
 }
@@ -114,8 +124,11 @@ fn answer<S: Source, P: Sink, N: Sink>(
 /// Does what the words of the command line say. `turns` reads a scene from `input`, runs it, and writes its screen to
 /// `picture` in the P6 form and its journal to `notes`. `sarea` does the same and writes the image of the shared area to
 /// `picture` in place of the screen, and no journal. `check` reads a scene and behind it a journal, asks whether the
-/// journal is a run of the scene, and writes the line of its report to `picture`, and nothing to `notes`. For every status
-/// but `Done` one line is written to `notes` last. It waits for nobody.
+/// journal is a run of the scene, and writes the line of its report to `picture`, and nothing to `notes`. `solo C K` reads a
+/// scene and writes frame K of client C, drawn alone with the sides that the client's window has in the scene, to
+/// `picture`, and nothing to `notes`. `make N` reads nothing; it writes the text of a scene of N clients to `picture`, and to
+/// `notes` how many frames run in it and how many of them stand. For every status but `Done` one line is written to `notes`
+/// last. It waits for nobody.
 pub fn drive<S: Source, P: Sink, N: Sink>(
     alloc: Global,
     words: &[String],
@@ -123,14 +136,16 @@ pub fn drive<S: Source, P: Sink, N: Sink>(
     picture: &mut P,
     notes: &mut N,
 ) -> Status
-    // The words are of no form: nothing is read.
+    // The words are of no form. Then nothing is read, nor for `make`.
     ensures usage { (result ≡ Status.Usage) ↔ (form_of words.now ≡ None) }
-    ensures unread { result ≡ Status.Usage → input.new ≡ input.old }
+    ensures unread { ReadsNothing (form_of words.now) → input.new ≡ input.old }
 
     // What was given, and what picture and notes gained. Where the answer is `Done`, the bytes given are the text of one
     // scene; with the run of its schedule and rounds, the picture gained what the screen or the shared area shows after
     // it, and the notes its journal; and of that run the headline holds. For `check` the bytes given are the text of a
-    // scene and then of a hold-run of it, and the picture gained the line of the run's report.
+    // scene and then of a hold-run of it, and the picture gained the line of the run's report. For `solo` they are the text
+    // of a scene that has the frame, and the picture gained the frame as it is drawn alone. For `make` the picture gained
+    // the generator's scene, and the notes how many frames ran in its run and how many of them stood.
     ensures answers { (given : List ℕ) × Consumes (S.left input.old) (S.left input.new) given
         × Answers (SaysTo (form_of words.now)) result given (S.left input.new)
         (record { held = P.held picture.old; holds = P.held picture.new; before = P.faults picture.old; now = P.faults picture.new })
@@ -146,11 +161,17 @@ pub fn drive<S: Source, P: Sink, N: Sink>(
         → (Rose (N.faults notes.old) (N.faults notes.new) → ⊥)
         → IsAnswerTo form bytes result ⊎ (result ≡ Status.OutOfMemory) }
 
-    // The same holds where the sinks take, without a fault, whatever a run of the scene gives, or the report's line.
+    // The same holds where the sinks take, without a fault, whatever a run of the scene gives, the report's line, the frame's
+    // picture, or the made scene and its line.
     ensures taken { (form : Form) (bytes : List ℕ) → form_of words.now ≡ Some form → S.left input.old ≡ Some bytes
         → (S.gives_all input.old ⊎ (Rose (S.faults input.old) (S.faults input.new) → ⊥))
         → TakesAllOf form bytes (P.takes picture.old) (N.takes notes.old)
         → IsAnswerTo form bytes result ⊎ (result ≡ Status.OutOfMemory) }
+
+    // For `make` nothing is read: whatever the source, it is done, want of memory aside, where no count of the sinks rose.
+    ensures made { (n : ℕ) → form_of words.now ≡ Some (Make n)
+        → (Rose (P.faults picture.old) (P.faults picture.new) → ⊥) → (Rose (N.faults notes.old) (N.faults notes.new) → ⊥)
+        → (result ≡ Status.Done) ⊎ (result ≡ Status.OutOfMemory) }
 
     // Where the notes take the status's line without a fault, they gain it whole and nothing else.
     ensures told { (n : ℕ) → length (line_of result) ≤ n → N.takes notes.old n → result ≢ Status.Done → result ≢ Status.WriteFault

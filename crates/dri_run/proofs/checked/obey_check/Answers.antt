@@ -1,8 +1,8 @@
 -- The report of the bytes was written.
 use Rattle.std.proofs.Common.{inr}
-use Rattle.dri_run.proofs.Checking.{taken_decides, written_decides}
-use Rattle.dri_run.proofs.Sayings.{says_ran}
-use Rattle.dri_run.specs.CheckedRun.{GivesReport, HasNoReport, IsReportRead}
+use Rattle.dri_run.proofs.Checking.{taken_decides}
+use Rattle.dri_run.proofs.Sayings.{says_ran, written_decides}
+use Rattle.dri_run.specs.CheckedRun.{GivesReport, HasNoReport, IsCheckAnswer, IsReportRead}
 use Rattle.dri_run.proofs.checked.obey_check.Goals as goal
 
 pub returns-in-Ok-clause-says : goal.returns-in-Ok-clause-says
@@ -12,7 +12,8 @@ returns-in-Ok-clause-says g c =
 
 pub returns-in-Ok-clause-decided : goal.returns-in-Ok-clause-decided
 returns-in-Ok-clause-decided g c = λ bytes left calm still quiet.
-    written_decides c.write_report.result c.in-Ok.report bytes _ _ (c.in-Ok.ensures.decided bytes left (inr calm)) c.write_report.ensures.ran still quiet
+    let decided = c.in-Ok.ensures.decided bytes left (inr calm) in
+    written_decides GivesReport (λ status. IsCheckAnswer status bytes) c.write_report.result c.in-Ok.report _ _ (decided.0, (c.in-Ok.report, decided.1)) c.write_report.ensures.ran still quiet
 
 pub returns-in-Ok-clause-taken : goal.returns-in-Ok-clause-taken
 returns-in-Ok-clause-taken g c = λ bytes left sure taken.
