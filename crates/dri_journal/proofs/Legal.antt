@@ -12,8 +12,6 @@ use Rattle.dri_base.specs.declared.command.Command.{Command}
 use Rattle.dri_base.specs.declared.journal.Entry.{Entry}
 use Rattle.dri_base.specs.declared.journal.Entry.TheVariants as Entry_is
 use Rattle.dri_base.specs.declared.scene.Scene.{Scene}
-use Rattle.dri_base.specs.declared.state.TexMode.{TexMode}
-use Rattle.dri_base.specs.declared.state.TexMode.TheVariants as Mode_is
 use Rattle.dri_base.specs.declared.texture.TexFormat.{TexFormat}
 use Rattle.dri_base.specs.declared.texture.TexFormat.TheVariants.{L8, Rgb565}
 use Rattle.dri_base.specs.declared.texture.Texture.{Texture}
@@ -25,9 +23,10 @@ use Rattle.dri_client.specs.Textures.{run_used}
 use Rattle.dri_core.specs.Effects.{heap_after}
 use Rattle.dri_core.specs.EntryTable.{LegalEntry, after_entry}
 use Rattle.dri_core.specs.Phases.{In}
-use Rattle.dri_core.specs.Privates.{Private, can_draw, can_run, run_of, texture_used, textured_with, used_run}
+use Rattle.dri_core.specs.Privates.{Private, can_draw, can_run, run_of, textured_with, used_run}
 use Rattle.dri_core.specs.Runs.{HoldRun, IsCurrent, after, client_of}
 use Rattle.dri_core.proofs.Bounds.{age_most_of_all}
+use Rattle.dri_core.proofs.Parts.{used_bound}
 use Rattle.dri_core.proofs.RunLaws.{acting_current, intact}
 use Rattle.dri_journal.specs.Acts.{MayAct, UsesRegions, heap_by, is_quiet}
 use Rattle.dri_model.specs.Heaps.{Heap, Run, classes_for, fits, is_place_for}
@@ -35,27 +34,22 @@ use Rattle.dri_texheap.specs.Placements.{placed_of}
 use Rattle.dri_texheap.specs.RegionStates.{AreRegionsOf, IsInUse, IsInside, RegionState, heap_of}
 
 -- a place of the heap's rule lies inside
-place_inside : (n : ℕ) (h : Heap) (count first : ℕ) → is_place_for n h count first ≡ true → first + count ≤ n
+pub place_inside : (n : ℕ) (h : Heap) (count first : ℕ) → is_place_for n h count first ≡ true → first + count ≤ n
 place_inside n h count first e = place n h (classes_for n h count) count first (and_parts _ _ e).1
   where
     place : (n : ℕ) (h : Heap) (m count first : ℕ) → fits n h m count first ≡ true → first + count ≤ n
     place n h m count first f = let low : nat_le (first + count) n ≡ true = (and_parts (nat_le (first + count) n) _ f).0 in grind (arith, nat_tests)
 
-bound_where : (mode : TexMode) (bound : Option ℕ) (t : ℕ) → texture_used mode bound ≡ Some t → bound ≡ Some t
-bound_where Mode_is.Off bound t e = absurd (cc)
-bound_where Mode_is.Replace bound t e = e
-bound_where Mode_is.Modulate bound t e = e
-
 some_bytes : (f : TexFormat) (w h n : ℕ) → n ≡ texel_bytes f * (w * h) → 1 ≤ w → 1 ≤ h → 0 < n
 some_bytes L8 w h n e lw lh = let high : 0 < h = omega (arith, lh) in omega (arith, e, lw, le-mul_of_pos_right w high)
 some_bytes Rgb565 w h n e lw lh = let high : 0 < h = omega (arith, lh) in omega (arith, e, lw, le-mul_of_pos_right w high)
 
-at_least_one : (size n : ℕ) → 0 < size → 0 < n → 1 ≤ regions_for size n
+pub at_least_one : (size n : ℕ) → 0 < size → 0 < n → 1 ≤ regions_for size n
 at_least_one size n sized some = (le-div_iff_mul-le {k = size} {x = 1} {y = n + (size - 1)} sized).1 (omega arith)
 
 -- the texture that a part's triangles need has bytes
 pub needed_bytes : (s : Scene) (c t : ℕ) (part : PartState) → InRange s → IsKept (script_of s c) s.regions part → textured_with part.state ≡ Some t → 0 < length (bytes_of (texture_in (textures_of s c) t))
-needed_bytes s c t part good kept e = by_texture (texture_in (textures_of s c) t) refl (kept.bound t (bound_where part.state.tex_mode part.state.bound t e))
+needed_bytes s c t part good kept e = by_texture (texture_in (textures_of s c) t) refl (kept.bound t (used_bound part.state.tex_mode part.state.bound t e))
   where
     by_texture : (o : Option Texture) → texture_in (textures_of s c) t ≡ o → IsSome o → 0 < length (bytes_of (texture_in (textures_of s c) t))
     by_texture None is some = absurd (cc)

@@ -6,6 +6,8 @@ mod Runs
 mod Unchanged
 mod Whom
 mod Legal
+pub mod EntryRanges
+mod Plain
 mod Keeping
 mod Counting
 mod Restacked

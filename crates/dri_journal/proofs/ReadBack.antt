@@ -182,12 +182,15 @@ entries_read n (e ∷ j) small is =
     let fits = λ (e : Entry). All (λ n. n < 2 ^ 32) (entry_numbers e) in
     rw (some_rest j, entry_kept e, not_done e, entry_read e (All-head fits e j small) (All-head EntryInRange e j is), entries_read (n + 1) j (All-tail fits e j small) (All-tail EntryInRange e j is)) refl
 
--- the printed text is read again
+-- the printed text is read again, whatever its first line's number is
+pub reads_back_from : (n : ℕ) (j : List Entry) → All (λ e. All (λ n. n < 2 ^ 32) (entry_numbers e)) j → All EntryInRange j → titled_from n (parts_at 10 (journal_text j)) ≡ Ok j
+reads_back_from n j small is =
+    let split = ap (parts_at 10) (text_lines j) ∙ split_lines (journal_lines j) (behind_printed j small) ∙ ap (λ t. codes "journal 1" ∷ t) (rest_is j) in
+    ap (titled_from n) split ∙ title_read j ∙ entries_read (n + 1) j small is
+  where
+    title_read : (j : List Entry) → titled_from n (codes "journal 1" ∷ rest_lines j) ≡ entries_from (n + 1) (rest_lines j)
+    title_read j = rw (some_rest j) refl
+
 pub reads_back : (j : List Entry) → All (λ e. All (λ n. n < 2 ^ 32) (entry_numbers e)) j → All EntryInRange j → journal_of_text (journal_text j) ≡ Ok j
 unfolding journal_of_text
-reads_back j small is =
-    let split = ap (parts_at 10) (text_lines j) ∙ split_lines (journal_lines j) (behind_printed j small) ∙ ap (λ t. codes "journal 1" ∷ t) (rest_is j) in
-    ap (titled_from 1) split ∙ title_read j ∙ entries_read 2 j small is
-  where
-    title_read : (j : List Entry) → titled_from 1 (codes "journal 1" ∷ rest_lines j) ≡ entries_from 2 (rest_lines j)
-    title_read j = rw (some_rest j) refl
+reads_back j small is = reads_back_from 1 j small is

@@ -1,12 +1,13 @@
 -- What a replay keeps after a new stack: the board, and the counts.
 use Rattle.std.proofs.Common.{◌≡◌, ◌<◌, ◌≤◌, ◌+◌, ◌∙◌, ℕ, zero, suc, List, [], ◌∷◌, Bool, true, false, Option, Some, None, length, get_or, refl, sym, ap, subst, arith, inl, inr}
-use Rattle.std.specs.Prelude.{◌⊎◌, ◌==◌, AllPairs, IfNone, IfSome, filter, not, slice_get}
+use Rattle.std.specs.Prelude.{◌⊎◌, ◌==◌, AllPairs, IfNone, IfSome, filter, is_none, is_some, not, slice_get}
 use Rattle.std.specs.List.{range_with_len}
 use Rattle.std.proofs.lemmas.Bool.{cases_eq}
 use Rattle.std.proofs.lemmas.Bool.Decides.{nat_tests}
 use Rattle.std.proofs.lemmas.Option.{get_or_from_slice_get, slice_get-get_or, slice_get_within}
 use Rattle.dri_base.specs.Ranges.{InRange, client_numbers}
 use Rattle.dri_base.specs.Scenes.{script_in, window_of}
+use Rattle.dri_base.specs.declared.command.Change.{Change}
 use Rattle.dri_base.specs.declared.journal.Entry.{Entry}
 use Rattle.dri_base.specs.declared.scene.ClientScript.{ClientScript}
 use Rattle.dri_base.specs.declared.scene.Scene.{Scene}
@@ -31,7 +32,8 @@ use Rattle.dri_journal.proofs.Keeping.{number_at, some_one}
 use Rattle.dri_journal.proofs.Whom.{client_in_range}
 use Rattle.dri_meaning.specs.Reports as Reports
 use Rattle.dri_meaning.specs.Reports.{cut_by, tally_cut}
-use Rattle.dri_model.specs.Stacks.{is_touched}
+use Rattle.dri_journal.proofs.Unchanged.{refused_same}
+use Rattle.dri_model.specs.Stacks.{changed, is_touched, refusal, stack_after}
 
 -- the board after a new stack
 pub board_after : (s : Scene) (w : World) (stack new : List Window) (board board' : Screen) → IsBoardOf s w.stack w.stamps w.counter board → stack ≡ new → IsRestacked stack board board' → IsBoardOf s new (stamps_after s w new) (counter_after s w new) board'
@@ -59,13 +61,15 @@ pub told_after : (s : Scene) (w : World) (stack new : List Window) (board : Scre
 told_after s w stack new board None b same is = tt
 told_after s w stack new board (Some touched) b same is = touched_after s w stack new board touched b same is
 
-pub untold_after : (s : Scene) (w : World) (stack new : List Window) (board : Screen) (told : Option Touched) → IsBoardOf s w.stack w.stamps w.counter board → stack ≡ new → IfNone told (stack ≡ board.stack) → IfNone told (new ≡ w.stack)
-untold_after s w stack new board None b same is = sym same ∙ is ∙ b.windows
-untold_after s w stack new board (Some touched) b same is = tt
+-- a change that is refused leaves the stack
+pub untold_after : (s : Scene) (w : World) (change : Change) (board : Screen) (told : Option Touched) → IsBoardOf s w.stack w.stamps w.counter board → is_none told ≡ is_some (refusal change board.stack) →
+    IfNone told (stack_after change w.stack ≡ w.stack)
+untold_after s w change board None b is = refused_same (refusal change w.stack) w.stack (changed change w.stack) (ap (λ ws. is_some (refusal change ws)) (sym b.windows) ∙ sym is)
+untold_after s w change board (Some touched) b is = tt
 
-pub tells : (s : Scene) (w : World) (new : List Window) (told : Option Touched) → IfSome told (IsTouchedBy s w new) → IfNone told (new ≡ w.stack) → TellsStack s w new (deed_told told)
-tells s w new None some none = none
-tells s w new (Some touched) some none = some
+pub tells : (s : Scene) (w : World) (new : List Window) (refused : Bool) (told : Option Touched) → IfSome told (IsTouchedBy s w new) → is_none told ≡ refused → TellsStack s w new refused (deed_told told)
+tells s w new refused None some is = sym is
+tells s w new refused (Some touched) some is = (sym is, some)
 
 -- numbers that are listed where they have the property
 none_listed : (p : ℕ → Bool) (n a k : ℕ) → n < a → has_number (filter p (range_with_len a k)) n ≡ false

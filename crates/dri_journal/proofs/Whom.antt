@@ -87,6 +87,9 @@ quiet_clients _ quiet = refl
 pub is_there : (s : Scene) (slices : List ClientScript) (o : Option ℕ) (n c : ℕ) → slices ≡ s.clients → n ≡ c → IsSome o ↔ Contains (client_numbers slices) n → Contains (client_numbers s.clients) c → IsSome o
 is_there s slices o n c is number iff has = iff.1 (subst (λ (ps : List ClientScript). Contains (client_numbers ps) n) (sym is) (subst (Contains (client_numbers s.clients)) (sym number) has))
 
+pub is_here : (s : Scene) (slices : List ClientScript) (o : Option ℕ) (n c : ℕ) → slices ≡ s.clients → n ≡ c → IsSome o ↔ Contains (client_numbers slices) n → IsSome o → Contains (client_numbers s.clients) c
+is_here s slices o n c is number iff some = subst (Contains (client_numbers s.clients)) number (subst (λ (ps : List ClientScript). Contains (client_numbers ps) n) is (iff.0 some))
+
 -- none isn't some
 pub no_some : (o : Option ℕ) → o ≡ None → IsSome o → ⊥
 no_some None e some = absurd (cc)

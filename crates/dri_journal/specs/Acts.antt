@@ -20,10 +20,7 @@ MayAct script n p (Entry_is.Stale c) = p.phase ≡ Old
 MayAct script n p (Entry_is.Info c) = p.phase ≡ Asking
 MayAct script n p (Entry_is.Place c t first count) = (textured_with p.state ≡ Some t) × IsInside n (run_at first count)
 MayAct script n p (Entry_is.Run c i) = (i ≡ p.place) × IsSome (next_command script p)
-MayAct script n p (Entry_is.Emit c groups) = Unit {0}
-MayAct script n p (Entry_is.Leave c) = Unit {0}
-MayAct script n p (Entry_is.Change i) = Unit {0}
-MayAct script n p (Entry_is.Gone c) = Unit {0}
+MayAct script n p _ = Unit {0}
 
 -- the heap after an entry, where the client's next command needs a texture in this run
 abbrev pub heap_by : ℕ → Heap → Entry → Option Command → Option Run → Heap

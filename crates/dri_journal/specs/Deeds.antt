@@ -1,6 +1,7 @@
 -- What an entry does to the planes.
-use Rattle.std.specs.Prelude.{◌≡◌, ℕ, List, [], Option, Some, None, filter}
+use Rattle.std.specs.Prelude.{◌≡◌, ℕ, List, [], Bool, true, false, Option, Some, None, filter, is_some, slice_get}
 use Rattle.std.specs.List.{range_with_len}
+use Rattle.dri_base.specs.declared.command.Change.{Change}
 use Rattle.dri_base.specs.declared.command.Command.{Command}
 use Rattle.dri_base.specs.declared.command.Command.TheVariants as Command_is
 use Rattle.dri_base.specs.declared.journal.Entry.{Entry}
@@ -14,7 +15,7 @@ use Rattle.dri_core.specs.Restacks.{next_stack, touched_by}
 use Rattle.dri_core.specs.Worlds.{World}
 use Rattle.dri_journal.specs.declared.deed.Deed.{Deed}
 use Rattle.dri_journal.specs.declared.deed.Deed.TheVariants as Deed_is
-use Rattle.dri_model.specs.Stacks.{without_owner}
+use Rattle.dri_model.specs.Stacks.{refusal, without_owner}
 
 -- what the run of a command does, where there is one
 abbrev pub deed_by : Option Command → Deed
@@ -38,15 +39,24 @@ pub record IsTouchedBy (s : Scene) (w : World) (new : List Window) (touched : To
   pub windows : touched.windows ≡ filter (touched_by s w new) (range_with_len 0 65)
   pub paints : ArePaints s.width s.height s.root w.stack new touched.paints
 
--- a new stack is told by what it touches, or it is the old one
-abbrev pub TellsStack : Scene → World → List Window → Deed → Type 0
-TellsStack s w new (Deed_is.Touched touched) = IsTouchedBy s w new touched
-TellsStack s w new Deed_is.Nothing = new ≡ w.stack
-TellsStack s w new _ = ⊥
+-- the board refuses the change, where there is one
+abbrev pub is_refused : List Window → Option Change → Bool
+is_refused ws None = false
+is_refused ws (Some change) = is_some (refusal change ws)
+
+-- the board refuses the next change
+abbrev pub refuses_next : Scene → World → Bool
+refuses_next s w = is_refused w.stack (slice_get s.changes w.made)
+
+-- a new stack is told by what it touches, unless it is that of a change that is refused
+abbrev pub TellsStack : Scene → World → List Window → Bool → Deed → Type 0
+TellsStack s w new refused (Deed_is.Touched touched) = (refused ≡ false) × IsTouchedBy s w new touched
+TellsStack s w new refused Deed_is.Nothing = refused ≡ true
+TellsStack s w new refused _ = ⊥
 
 -- what an entry does to the planes
 abbrev pub Does : Scene → World → Entry → Deed → Type 0
 Does s w (Entry_is.Run c i) deed = deed ≡ deed_by (command_at s c i)
-Does s w (Entry_is.Change i) deed = TellsStack s w (next_stack s w) deed
-Does s w (Entry_is.Gone c) deed = TellsStack s w (without_owner c w.stack) deed
+Does s w (Entry_is.Change i) deed = TellsStack s w (next_stack s w) (refuses_next s w) deed
+Does s w (Entry_is.Gone c) deed = TellsStack s w (without_owner c w.stack) false deed
 Does s w _ deed = deed ≡ Deed_is.Nothing

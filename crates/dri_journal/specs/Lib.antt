@@ -6,6 +6,7 @@ pub mod Readings
 pub mod Tallies
 pub mod Deeds
 pub mod Acts
+pub mod Reasons
 pub mod Remains
 pub mod Replays
 -- The check of a journal

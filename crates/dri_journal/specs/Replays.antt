@@ -6,6 +6,7 @@ use Rattle.dri_core.specs.EntryTable.{LegalEntry}
 use Rattle.dri_core.specs.Runs.{after}
 use Rattle.dri_core.specs.Worlds.{World}
 use Rattle.dri_journal.specs.Deeds.{Does}
+use Rattle.dri_journal.specs.Reasons.{Fails}
 use Rattle.dri_journal.specs.declared.deed.Deed.{Deed}
 use Rattle.dri_journal.specs.declared.refusal.Refusal.{Refusal}
 use Rattle.dri_journal.specs.declared.refusal.StepFault.{StepFault}
@@ -34,8 +35,8 @@ abbrev pub allows : {A : Type 0} → Result A Refusal → Bool
 allows (Ok x) = true
 allows (Err refusal) = false
 
--- a legal entry is taken, and what it does is told; another is refused, and then, as where memory ran out, nothing is changed
+-- a legal entry is taken, and what it does is told; another is refused for its reason, and then, as where memory ran out, nothing is changed
 abbrev pub Steps : ReplayState → ReplayState → Entry → Result Deed StepFault → Type 0
 Steps old new e (Ok deed) = MayTake old e × Took old new e × Does old.scene (world_of old) e deed
-Steps old new e (Err (faults.Refused refusal)) = (MayTake old e → ⊥) × (new ≡ old)
+Steps old new e (Err (faults.Refused refusal)) = (MayTake old e → ⊥) × Fails old.scene (world_of old) e refusal × (new ≡ old)
 Steps old new e (Err faults.OutOfMemory) = new ≡ old

@@ -10,7 +10,9 @@ ghost use Rattle.dri_client.specs.Parts.{next_command};
 ghost use Rattle.dri_core.specs.Decide.{is_die};
 ghost use Rattle.dri_core.specs.Phases.{Ask, Asking, In, Old, Out, Over, is_done, is_holding, same_phase};
 ghost use Rattle.dri_core.specs.Privates.{can_run, is_ready_for, is_triangle, textured_with};
+ghost use Rattle.dri_journal.specs.Reasons.{first_unmet, told_reason, ways_to_go};
 ghost use Rattle.dri_journal.specs.Replays.{allows};
+ghost use Rattle.dri_journal.specs.declared.refusal.Refusal.TheVariants as refusals;
 ghost use Rattle.dri_model.specs.Groups.{bits, is_empty, same_number};
 ghost use Rattle.dri_model.specs.Heaps.{is_place_for};
 ghost use Rattle.dri_texheap.specs.Placements.{placed_of};
@@ -24,7 +26,8 @@ use dri_texheap::{Regions, Run};
 
 /// The refusal, where a condition isn't met.
 fn require(is_met: bool, refusal: Refusal) -> Result<(), Refusal>
-    ensures { allows result ≡ is_met }
+    ensures allows { allows result ≡ is_met }
+    ensures reason { told_reason result ≡ first_unmet ((is_met, refusal) ∷ []) }
 {
     if is_met { Ok(()) } else { Err(refusal) }
 }
@@ -79,7 +82,7 @@ fn is_at_die(part: &ClientPart, script: &ClientScript) -> bool
 /// A light take.
 pub fn light(part: &ClientPart, marks: Marks, client: u32) -> Result<(), Refusal>
     requires { client ≤ 32 }
-    ensures { allows result ≡ (same_phase part.now.phase Out && (is_none marks.holder && (marks.left == client + 1))) }
+    ensures { told_reason result ≡ first_unmet ((same_phase part.now.phase Out, refusals.WrongPhase) ∷ (is_none marks.holder, refusals.Held) ∷ (marks.left == client + 1, refusals.NotTheLast) ∷ []) }
 {
     require(is_in(part, Activity::Out), Refusal::WrongPhase)?;
     require(marks.holder.is_none(), Refusal::Held)?;
@@ -89,7 +92,7 @@ pub fn light(part: &ClientPart, marks: Marks, client: u32) -> Result<(), Refusal
 /// A take through the kernel.
 pub fn kernel(part: &ClientPart, marks: Marks, client: u32, found: u32) -> Result<(), Refusal>
     requires { client ≤ 32 }
-    ensures { allows result ≡ (same_phase part.now.phase Out && (is_none marks.holder && (((found == 0) || (found == marks.left)) && not (found == client + 1)))) }
+    ensures { told_reason result ≡ first_unmet ((same_phase part.now.phase Out, refusals.WrongPhase) ∷ (is_none marks.holder, refusals.Held) ∷ ((found == 0) || (found == marks.left), refusals.WrongContext) ∷ (not (found == client + 1), refusals.WrongContext) ∷ []) }
 {
     require(is_in(part, Activity::Out), Refusal::WrongPhase)?;
     require(marks.holder.is_none(), Refusal::Held)?;
@@ -99,14 +102,14 @@ pub fn kernel(part: &ClientPart, marks: Marks, client: u32, found: u32) -> Resul
 
 /// A client says that its stamp is old.
 pub fn stale(part: &ClientPart) -> Result<(), Refusal>
-    ensures { allows result ≡ same_phase part.now.phase Old }
+    ensures { told_reason result ≡ first_unmet ((same_phase part.now.phase Old, refusals.WrongPhase) ∷ []) }
 {
     require(is_in(part, Activity::Old), Refusal::WrongPhase)
 }
 
 /// A leave.
 pub fn leave(part: &ClientPart) -> Result<(), Refusal>
-    ensures { allows result ≡ (same_phase part.now.phase Over || same_phase part.now.phase Ask) }
+    ensures { told_reason result ≡ first_unmet ((same_phase part.now.phase Over || same_phase part.now.phase Ask, refusals.WrongPhase) ∷ []) }
 {
     let is_over = is_in(part, Activity::Over);
     let is_asking = is_in(part, Activity::Ask);
@@ -115,7 +118,7 @@ pub fn leave(part: &ClientPart) -> Result<(), Refusal>
 
 /// A client is told of its window.
 pub fn info(part: &ClientPart, marks: Marks) -> Result<(), Refusal>
-    ensures { allows result ≡ (same_phase part.now.phase Asking && is_none marks.holder) }
+    ensures { told_reason result ≡ first_unmet ((same_phase part.now.phase Asking, refusals.WrongPhase) ∷ (is_none marks.holder, refusals.Held) ∷ []) }
 {
     require(is_in(part, Activity::Asking), Refusal::WrongPhase)?;
     require(marks.holder.is_none(), Refusal::Held)
@@ -124,7 +127,7 @@ pub fn info(part: &ClientPart, marks: Marks) -> Result<(), Refusal>
 /// A change, of so many.
 pub fn change(marks: Marks, changes: usize, place: u32) -> Result<(), Refusal>
     requires { marks.made ≤ 4096 }
-    ensures { allows result ≡ (is_none marks.holder && ((place == marks.made + 1) && nat_le place changes)) }
+    ensures { told_reason result ≡ first_unmet ((is_none marks.holder, refusals.Held) ∷ (place == marks.made + 1, refusals.NoSuchChange) ∷ (nat_le place changes, refusals.NoSuchChange) ∷ []) }
 {
     require(marks.holder.is_none(), Refusal::Held)?;
     require(place == marks.made + 1, Refusal::NoSuchChange)?;
@@ -133,7 +136,7 @@ pub fn change(marks: Marks, changes: usize, place: u32) -> Result<(), Refusal>
 
 /// Groups of registers are loaded.
 pub fn emit(part: &ClientPart, script: &ClientScript, groups: u8) -> Result<(), Refusal>
-    ensures { allows result ≡ (same_phase part.now.phase In && (is_triangle (next_command script.now part.now) && (is_ready_for (placed_of part.now.placed) (textured_with part.now.state) && ((groups == bits part.now.dirty) && not (is_empty part.now.dirty))))) }
+    ensures { told_reason result ≡ first_unmet ((same_phase part.now.phase In, refusals.WrongPhase) ∷ (is_triangle (next_command script.now part.now), refusals.NoTriangle) ∷ (is_ready_for (placed_of part.now.placed) (textured_with part.now.state), refusals.NotPlaced) ∷ (groups == bits part.now.dirty, refusals.WrongGroups) ∷ (not (is_empty part.now.dirty), refusals.WrongGroups) ∷ []) }
 {
     require(is_in(part, Activity::In), Refusal::WrongPhase)?;
     require(is_at_triangle(part, script), Refusal::NoTriangle)?;
@@ -145,7 +148,7 @@ pub fn emit(part: &ClientPart, script: &ClientScript, groups: u8) -> Result<(), 
 
 /// A command runs.
 pub fn run(part: &ClientPart, script: &ClientScript, place: u32) -> Result<(), Refusal>
-    ensures { allows result ≡ (same_phase part.now.phase In && ((place == part.now.place) && can_run (is_empty part.now.dirty && is_ready_for (placed_of part.now.placed) (textured_with part.now.state)) (next_command script.now part.now))) }
+    ensures { told_reason result ≡ first_unmet ((same_phase part.now.phase In, refusals.WrongPhase) ∷ (place == part.now.place, refusals.WrongPlace) ∷ (can_run true (next_command script.now part.now), refusals.NoCommand) ∷ (can_run (is_empty part.now.dirty && is_ready_for (placed_of part.now.placed) (textured_with part.now.state)) (next_command script.now part.now), refusals.NotEmitted) ∷ []) }
 {
     require(is_in(part, Activity::In), Refusal::WrongPhase)?;
     require(place == part.place(), Refusal::WrongPlace)?;
@@ -175,7 +178,7 @@ pub fn gone(
     marks: Marks,
     items: &[Item],
 ) -> Result<(), Refusal>
-    ensures { allows result ≡ ((same_phase part.now.phase In && is_die (next_command script.now part.now)) || (kills_in items.now script.now.number && (not (is_done part.now.phase) && (is_holding part.now.phase || is_none marks.holder)))) }
+    ensures { told_reason result ≡ first_unmet (ways_to_go (same_phase part.now.phase In && is_die (next_command script.now part.now)) (kills_in items.now script.now.number) (is_done part.now.phase) (is_holding part.now.phase || is_none marks.holder)) }
 {
     if is_in(part, Activity::In) && is_at_die(part, script) {
         return Ok(());
@@ -252,7 +255,7 @@ pub fn place(
     requires needed { regions_for size (length (bytes_of (texture_in script.now.textures texture))) ≤ regions.now.count }
     requires there { same_number (textured_with part.now.state) (Some texture) ≡ true → 0 < length (bytes_of (texture_in script.now.textures texture)) }
     requires age { (heap_of regions.now).global ≤ last_age }
-    ensures { allows result ≡ (same_phase part.now.phase In && (is_triangle (next_command script.now part.now) && (same_number (textured_with part.now.state) (Some texture) && (is_none (placed_of part.now.placed texture) && ((run.count == regions_for size (length (bytes_of (texture_in script.now.textures texture)))) && is_place_for regions.now.count (heap_of regions.now) run.count run.first))))) }
+    ensures { told_reason result ≡ first_unmet ((same_phase part.now.phase In, refusals.WrongPhase) ∷ (is_triangle (next_command script.now part.now), refusals.NoTriangle) ∷ (same_number (textured_with part.now.state) (Some texture), refusals.WrongTexture) ∷ (is_none (placed_of part.now.placed texture), refusals.WrongTexture) ∷ ((run.count == regions_for size (length (bytes_of (texture_in script.now.textures texture)))) && is_place_for regions.now.count (heap_of regions.now) run.count run.first, refusals.WrongRun) ∷ []) }
 {
     require(is_in(part, Activity::In), Refusal::WrongPhase)?;
     require(is_at_triangle(part, script), Refusal::NoTriangle)?;

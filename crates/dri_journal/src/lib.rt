@@ -21,6 +21,7 @@ mod refusal;
 mod replay;
 mod tally;
 mod windows;
+mod written;
 
 pub use answer::{CheckFault, Report};
 pub use checking::check;
@@ -30,3 +31,4 @@ pub use print::print_journal;
 pub use read::read_journal;
 pub use refusal::{Refusal, StepFault};
 pub use replay::Replay;
+pub use written::{plain_runs_stay, runs_read_back};

@@ -1,6 +1,6 @@
 //! What of a world is one number each.
 
-ghost use Rattle.std.specs.Prelude.{◌≡◌, ◌≤◌, is_none};
+ghost use Rattle.std.specs.Prelude.{◌≡◌, ◌≤◌, Some, None, is_none};
 ghost use Rattle.dri_base.specs.declared.scene.Scene.{Scene};
 ghost use Rattle.dri_core.specs.EntryTable.{after_entry};
 ghost use Rattle.dri_core.specs.Runs.{client_of};
@@ -42,6 +42,27 @@ impl Marks {
         }
     }
 
+    /// A client holds now.
+    fn held_by(self, client: u32) -> Marks
+        ensures { result ≡ record self { holder = Some client } }
+    {
+        Marks {
+            holder: Some(client),
+            ..self
+        }
+    }
+
+    /// Nobody holds now, and the last hold left this context.
+    fn free(self, left: u32) -> Marks
+        ensures { result ≡ record self { holder = None; left = left } }
+    {
+        Marks {
+            holder: None,
+            left,
+            ..self
+        }
+    }
+
     /// Those after an entry.
     pub fn after(self, entry: &Entry) -> Marks
         requires client { client_of entry.now ≤ 32 }
@@ -49,29 +70,17 @@ impl Marks {
         ensures { (s : Scene) (w : World) → AreMarksOf w self → AreMarksOf (after_entry s w entry.now) result }
     {
         match *entry {
-            Entry::Light { client } => Marks {
-                holder: Some(client),
-                ..self
-            },
+            Entry::Light { client } => self.held_by(client),
             Entry::Kernel { client, found: _ } => Marks {
-                holder: Some(client),
                 owner: client + 1,
-                ..self
+                ..self.held_by(client)
             },
-            Entry::Leave { client } => Marks {
-                holder: None,
-                left: client + 1,
-                ..self
-            },
+            Entry::Leave { client } => self.free(client + 1),
+            Entry::Gone { client: _ } => self.free(0),
             Entry::Info { client: _ } => Marks { left: 1, ..self },
             Entry::Change { place: _ } => Marks {
                 left: 1,
                 made: self.made + 1,
-                ..self
-            },
-            Entry::Gone { client: _ } => Marks {
-                holder: None,
-                left: 0,
                 ..self
             },
             Entry::Stale { client: _ } => self,

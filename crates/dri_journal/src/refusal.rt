@@ -2,7 +2,8 @@
 
 use dri_base::OutOfMemory;
 
-/// Why an entry isn't legal after those that were taken: one of its conditions that isn't met. No contract says which one.
+/// Why an entry isn't legal after those that were taken: the first of its conditions that isn't met, in the order in which
+/// the definition `conditions` has them.
 #[derive(Clone, Copy, Debug, PartialEq, Eq)]
 pub enum Refusal {
     /// The scene has no such client.

@@ -4,8 +4,10 @@
 //!
 //! A step looks the entry's client up, and works on what is kept now, so its cost doesn't grow with the entries taken.
 
-ghost use Rattle.std.specs.Prelude.{◌≡◌, ◌≤◌, ◌<◌, ◌&&◌, [], length, IfOk, OnOk, OnErr, Some, true, slice_get};
+ghost use Rattle.std.specs.Prelude.{◌≡◌, ◌≤◌, ◌<◌, ◌&&◌, [], length, IfErr, IfOk, OnOk, OnErr, Some, true, slice_get, Contains};
 ghost use Rattle.dri_base.specs.Ranges.{InRange, client_numbers};
+ghost use Rattle.dri_client.specs.Parts.{Agrees};
+ghost use Rattle.dri_clips.specs.SceneBoards.{IsBoardOf};
 ghost use Rattle.dri_core.specs.Decide.{is_legal_entry};
 ghost use Rattle.dri_core.specs.Runs.{HoldRun, client_of};
 ghost use Rattle.dri_base.specs.Scenes.{script_of};
@@ -13,6 +15,7 @@ ghost use Rattle.dri_base.specs.declared.journal.Entry.TheVariants as Entry_is;
 ghost use Rattle.dri_core.specs.Phases.{is_done};
 ghost use Rattle.dri_journal.specs.Acts.{is_quiet, ran_by};
 ghost use Rattle.dri_journal.specs.Deeds.{Does};
+ghost use Rattle.dri_journal.specs.Reasons.{Fails, conditions, first_unmet, told_reason};
 ghost use Rattle.dri_journal.specs.Remains.{AreOpening};
 ghost use Rattle.std.specs.List.{list_all};
 ghost use Rattle.dri_journal.specs.Replays.{MayTake, Steps, Took, allows, world_of};
@@ -110,9 +113,28 @@ impl<'a> Replay<'a> {
         are_both(is_unheld, rest)
     }
 
-    /// Whether an entry is legal after those that were taken, and a reason where it isn't; which one isn't promised.
+    /// The windows as the entries leave them: their stack, clips and stamps.
+    pub fn board(&self) -> &Board
+        ensures { IsBoardOf self.now.scene (world_of self.now).stack (world_of self.now).stamps (world_of self.now).counter result.now }
+    {
+        &self.board
+    }
+
+    /// What a client of the scene keeps of the others after the entries. Its copies of its clips and its corner are no part
+    /// of that.
+    pub fn part(&self, client: u32) -> &ClientPart
+        requires { Contains (client_numbers self.now.scene.clients) client }
+        ensures { Agrees result.now ((world_of self.now).client client) }
+    {
+        let at = place_of(self.scene.clients.as_slice(), client).unwrap();
+        &self.parts[at]
+    }
+
+    /// Whether an entry is legal after those that were taken. Where it isn't, the reason is that of the first of its
+    /// conditions that isn't met.
     pub fn judge(&self, entry: &Entry) -> Result<(), Refusal>
-        ensures { allows result ≡ is_legal_entry self.now.scene (world_of self.now) entry.now }
+        ensures legal { allows result ≡ is_legal_entry self.now.scene (world_of self.now) entry.now }
+        ensures why { IfErr result (Fails self.now.scene (world_of self.now) entry.now) }
     {
         if let Entry::Change { place } = *entry {
             return judging::change(self.marks, self.scene.changes.len(), place);
@@ -123,10 +145,10 @@ impl<'a> Replay<'a> {
         }
     }
 
-    // Whether an entry of the client of the script at a place is legal.
+    // Whether an entry of the client of the script at a place is legal, and the reason where it isn't.
     fn judge_client(&self, at: usize, entry: &Entry) -> Result<(), Refusal>
         requires { slice_get self.now.scene.clients at ≡ Some (script_of self.now.scene (client_of entry.now)) }
-        ensures { allows result ≡ is_legal_entry self.now.scene (world_of self.now) entry.now }
+        ensures { told_reason result ≡ first_unmet (conditions self.now.scene (world_of self.now) entry.now) }
     {
         let script = self.scene.clients.get(at);
         let part = &self.parts[at];

@@ -1,5 +1,5 @@
 use Rattle.std.proofs.Common.{◌≡◌, ◌∙◌, ◌++◌, [], ◌∷◌, Some, sym, ap, refl, subst, arith, length, List}
-use Rattle.std.specs.Prelude.{slice_get}
+use Rattle.std.specs.Prelude.{IfNone, is_none, is_some, slice_get}
 use Rattle.dri_base.specs.declared.journal.Entry.TheVariants.{Change}
 use Rattle.dri_base.specs.declared.scene.ClientScript.{ClientScript}
 use Rattle.dri_base.proofs.RangeLemmas.{well_formed}
@@ -8,10 +8,10 @@ use Rattle.dri_core.specs.Restacks.{change_stack, next_stack}
 use Rattle.dri_core.specs.Runs.{after}
 use Rattle.dri_core.proofs.Bounds.{made_bounded, stamp_most}
 use Rattle.dri_core.proofs.Kept.{after_kept}
-use Rattle.dri_model.specs.Stacks.{stack_after}
+use Rattle.dri_model.specs.Stacks.{refusal, stack_after}
 use Rattle.dri_journal.proofs.Keeping.{faithful, parts_stay}
 use Rattle.dri_journal.proofs.Restacked.{board_after, cut_counts, tells, told_after, untold_after, windows_told}
-use Rattle.dri_journal.specs.Deeds.{TellsStack}
+use Rattle.dri_journal.specs.Deeds.{TellsStack, is_refused, refuses_next}
 use Rattle.dri_journal.specs.Replays.{MayTake, world_of}
 use Rattle.dri_journal.specs.Tallies.{has_number}
 use Rattle.dri_meaning.specs.Reports.{tally}
@@ -38,7 +38,7 @@ invariant_of-self-2 c =
     let stack : stack_after c.get-change.result.now i.board.stack ≡ next_stack s (after s j) = ap (stack_after c.get-change.result.now) c.self.invariant.windows.windows ∙ ap (change_stack (after s j).stack) (sym there) in
     let new = next_stack s (after s j) in
     let some = told_after s (after s j) (stack_after c.get-change.result.now i.board.stack) new i.board c.in_ok-told.told c.self.invariant.windows stack c.in_ok-told.ensures.touched in
-    let none = untold_after s (after s j) (stack_after c.get-change.result.now i.board.stack) new i.board c.in_ok-told.told c.self.invariant.windows stack c.in_ok-told.ensures.refused in
+    let none = subst (λ ws. IfNone c.in_ok-told.told (ws ≡ (after s j).stack)) (ap (change_stack (after s j).stack) (sym there)) (untold_after s (after s j) c.get-change.result.now i.board c.in_ok-told.told c.self.invariant.windows c.in_ok-told.ensures.refused) in
     faithful s j c.push_reserved.new.self.items e i.board c.change_windows.new.board i.regions i.regions i.parts.items i.parts.items i.tally c.cut.new.self i.marks c.after-self-inside.result
     c.self.invariant legal (c.push_reserved.ensures.items ∙ ap (λ xs. xs ++ e ∷ []) c.reserve.ensures.items)
     (board_after s (after s j) (stack_after c.get-change.result.now i.board.stack) new i.board c.change_windows.new.board c.self.invariant.windows stack c.in_ok-told.ensures.ok)
@@ -57,5 +57,5 @@ returns-clause-deed c =
     let stack : stack_after c.get-change.result.now i.board.stack ≡ next_stack s (after s j) = ap (stack_after c.get-change.result.now) c.self.invariant.windows.windows ∙ ap (change_stack (after s j).stack) (sym there) in
     let new = next_stack s (after s j) in
     let some = told_after s (after s j) (stack_after c.get-change.result.now i.board.stack) new i.board c.in_ok-told.told c.self.invariant.windows stack c.in_ok-told.ensures.touched in
-    let none = untold_after s (after s j) (stack_after c.get-change.result.now i.board.stack) new i.board c.in_ok-told.told c.self.invariant.windows stack c.in_ok-told.ensures.refused in
-    subst (λ v. TellsStack v.scene (world_of v) (next_stack v.scene (world_of v)) c.deed_told.result) c.self.view_is (subst (λ d. TellsStack s (after s j) new d) (sym c.deed_told.ensures) (tells s (after s j) new c.in_ok-told.told some none))
+    let refused : is_none c.in_ok-told.told ≡ refuses_next s (after s j) = c.in_ok-told.ensures.refused ∙ ap (λ ws. is_some (refusal c.get-change.result.now ws)) c.self.invariant.windows.windows ∙ ap (is_refused (after s j).stack) (sym there) in
+    subst (λ v. TellsStack v.scene (world_of v) (next_stack v.scene (world_of v)) (refuses_next v.scene (world_of v)) c.deed_told.result) c.self.view_is (subst (λ d. TellsStack s (after s j) new (refuses_next s (after s j)) d) (sym c.deed_told.ensures) (tells s (after s j) new (refuses_next s (after s j)) c.in_ok-told.told some refused))

@@ -76,4 +76,4 @@ pub returns-clause-deed : goal.returns-clause-deed
 returns-clause-deed c =
     let i = c.self.inside in let s = i.scene.now in let j = i.entries.items in let n = c.args.client in
     let stack = ap (without_owner n) c.self.invariant.windows.windows in
-    rw (← c.self.view_is) (touched_after s (after s j) (without_owner n i.board.stack) (without_owner n (after s j).stack) i.board c.in_ok-touched.touched c.self.invariant.windows stack c.in_ok-touched.ensures.touched)
+    rw (← c.self.view_is) (refl, touched_after s (after s j) (without_owner n i.board.stack) (without_owner n (after s j).stack) i.board c.in_ok-touched.touched c.self.invariant.windows stack c.in_ok-touched.ensures.touched)

@@ -1,5 +1,5 @@
 use Rattle.std.proofs.Common.{◌≡◌, ◌∙◌, ◌≤◌, ◌<◌, Some, sym, subst, arith, length}
-use Rattle.std.specs.Prelude.{slice_get, ◌&&◌, ◌||◌, not, is_none}
+use Rattle.std.specs.Prelude.{slice_get, ◌&&◌, ◌||◌, is_none}
 use Rattle.dri_client.specs.Parts.{next_command}
 use Rattle.dri_core.specs.Decide.{is_die}
 use Rattle.dri_core.specs.Phases.{In, is_done, is_holding, same_phase}
@@ -14,7 +14,8 @@ use Rattle.dri_journal.proofs.Judged as Judged
 use Rattle.dri_journal.proofs.Keeping.{part_found, some_one}
 use Rattle.dri_journal.proofs.Legal.{age_small, needed_bytes}
 use Rattle.dri_journal.proofs.Whom.{small_number}
-use Rattle.dri_journal.specs.Replays.{ReplayState, allows}
+use Rattle.dri_journal.specs.Reasons.{first_unmet, told_reason, ways_to_go}
+use Rattle.dri_journal.specs.Replays.{ReplayState}
 use Rattle.dri_journal.proofs.replay.Replay.judge_client.Goals as goal
 
 pub light-requires : goal.light-requires
@@ -165,7 +166,7 @@ returns-in-Gone c =
     let script : c.get-script.result.now ≡ script_of s n = some_one (sym c.get-script.ensures ∙ there) in
     let part = c.index-part.result.now in
     let own = part_found s (after s j) n at i.parts.items part c.self.invariant.clients there c.index-part.ensures in
-    rw (← c.self.view_is, c.in-Gone.is) (subst (λ items. allows c.gone.result ≡ ((same_phase part.phase In && is_die (next_command c.get-script.result.now part)) || (kills_in items c.get-script.result.now.number && (not (is_done part.phase) && (is_holding part.phase || is_none i.marks.holder))))) c.as_slice.ensures c.gone.ensures ∙ gone s (after s j) n c.get-script.result.now part i.marks script own.0 c.self.invariant.world)
+    rw (← c.self.view_is, c.in-Gone.is) (subst (λ items. told_reason c.gone.result ≡ first_unmet (ways_to_go (same_phase part.phase In && is_die (next_command c.get-script.result.now part)) (kills_in items c.get-script.result.now.number) (is_done part.phase) (is_holding part.phase || is_none i.marks.holder))) c.as_slice.ensures c.gone.ensures ∙ gone s (after s j) n c.get-script.result.now part i.marks script own.0 c.self.invariant.world)
 
 pub returns-in-Place : goal.returns-in-Place
 returns-in-Place c =
