@@ -1,10 +1,9 @@
 //! Clients in threads, as calls of the top call, with gates that hold clients up until others have come.
 
-ghost use Rattle.std.specs.Prelude.{◌<◌, ◌≤◌};
-
 use dri_base::Bytes;
 use dri_io::{CallList, MemorySink, NeverFails};
 use dri_run::{Status, drive_run};
+use dri_scene::{make_scene, print_scene};
 use dri_threads::{AlwaysOpen, Gate, GatePoint};
 use std::alloc::Global;
 use std::process::Abort;
@@ -135,84 +134,10 @@ fn bytes_of(alloc: Global, text: &str) -> Result<Bytes, Fail> {
     Ok(Bytes::from_vec(text.as_bytes().to_vec(alloc)?))
 }
 
-/// Puts a texture's line last.
-fn push_texture(alloc: Global, text: &mut String, client: u32, texture: u32) -> Result<(), Fail>
-    requires client { client ≤ 4 }
-    requires texture { texture ≤ 3 }
-{
-    text.push_str(format!(in alloc; "texture {texture} l8 64 64 ")?.as_str())?;
-    for place in 0..4096_u32 {
-        let value = (place % 64 * texture + place / 64 * client) % 256;
-        text.push_str(format!(in alloc; "{value:02x}")?.as_str())?;
-    }
-    text.push_str("\n")?;
-    Ok(())
-}
-
-/// Puts a client's block last: three textures, and twenty frames of two triangles.
-fn push_client(alloc: Global, text: &mut String, client: u32) -> Result<(), Fail>
-    requires { client ≤ 4 }
-{
-    text.push_str(format!(in alloc; "client {client} {client}\n")?.as_str())?;
-    push_texture(alloc, text, client, 1)?;
-    push_texture(alloc, text, client, 2)?;
-    push_texture(alloc, text, client, 3)?;
-    text.push_str("set depth less\nset write on\nset texmode modulate\n")?;
-    for frame in 1..21_u32 {
-        let red = 10 * frame;
-        let green = 7 * client;
-        let texture = (frame - 1) % 3 + 1;
-        let top = 16 * frame;
-        text.push_str(format!(in alloc;
-            "clear {red:02x}{green:02x}00 65535\nset bind {texture}\n"
-        )?.as_str())?;
-        text.push_str(
-            "triangle 0 0 1000 ffffffff 0 0 4480 0 1000 ffffffff 1023 0 0 3520 1000 ffffffff 0 1023\n",
-        )?;
-        text.push_str(format!(in alloc;
-            "triangle 4480 {top} 500 80ff80ff 0 0 4480 3520 500 80ff80ff 1023 0 0 3520 500 80ff80ff 0 1023\nswap\n"
-        )?.as_str())?;
-    }
-    text.push_str("end\n")?;
-    Ok(())
-}
-
-/// Puts four changes last, the last of which has this number.
-fn push_changes(alloc: Global, text: &mut String, last: u32) -> Result<(), Fail>
-    requires low { 4 ≤ last }
-    requires high { last ≤ 40 }
-{
-    let move_x = 53 * (last - 2) % 320;
-    let move_y = 29 * (last - 2) % 200;
-    let width = 200 + last;
-    let height = 150 + last;
-    let line = format!(in alloc;
-        "raise 1\nmove 2 {move_x} {move_y}\nlower 3\nresize 4 {width} {height}\n"
-    )?;
-    text.push_str(line.as_str())?;
-    Ok(())
-}
-
-/// The scene of four clients with twenty frames each, and forty changes.
+/// The text of the scene of four clients with twenty frames each, and forty changes.
 fn crowd(alloc: Global) -> Result<Bytes, Fail> {
-    let mut text = String::from_str(alloc, "dri 1\nscreen 640 480 203040\nheap 16 4096\n")?;
-    for window in 1..5_u32 {
-        let x = 61 * window;
-        let y = 43 * window;
-        let red = 7 * window;
-        text.push_str(format!(in alloc;
-            "window {window} {x} {y} 280 220 {red:02x}4080 {window} up\n"
-        )?.as_str())?;
-    }
-    for client in 1..5_u32 {
-        push_client(alloc, &mut text, client)?;
-    }
-    text.push_str("server\n")?;
-    for four in 1..11_u32 {
-        push_changes(alloc, &mut text, 4 * four)?;
-    }
-    text.push_str("end\ndone\n")?;
-    Ok(Bytes::from_vec(text.into_bytes()))
+    let scene = make_scene(alloc, 4)?;
+    Ok(print_scene(alloc, &scene)?)
 }
 
 #[test]

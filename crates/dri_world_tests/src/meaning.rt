@@ -4,10 +4,7 @@ ghost use Rattle.std.specs.Prelude.{◌≡◌, length};
 ghost use Rattle.dri_base.specs.Ranges.{InRange};
 ghost use Rattle.dri_meaning.specs.Scripts.{ScriptInRange};
 
-use dri_base::{
-    Blend, ClientScript, ClipRect, Command, Rgb, Rgba, Scene, Sequence, Setting, Triangle, Vertex,
-    Window,
-};
+use dri_base::{ClientScript, Rgb, Scene};
 use dri_meaning::{
     SoloFault, a_scissor, a_triangle, bounded, central, changed_beside, changes_one_by_one,
     columns, confined, core, counted, covered_and_uncovered, covered_in_part, covered_whole, death,
@@ -16,7 +13,7 @@ use dri_meaning::{
     solo_left, solo_picture, solo_pixel, stamped, stopped, turned_off, turns, two_blends,
     two_holds, two_places, two_textures, why_refused,
 };
-use std::alloc::Global;
+use dri_scene::read_scene;
 use std::test::Fail;
 
 #[test]
@@ -79,96 +76,13 @@ const LIGHT_GREY: Rgb = Rgb {
     b: 192,
 };
 
-fn vertex(x: i32, y: i32, colour: Rgba) -> Vertex {
-    Vertex {
-        x,
-        y,
-        z: 0,
-        colour,
-        s: 0,
-        t: 0,
-    }
-}
-
-/// A triangle of twenty pixels' sides, in the window's upper left corner.
-fn corner_triangle(r: u8, g: u8, b: u8, a: u8) -> Command {
-    let colour = Rgba { r, g, b, a };
-    Command::Triangle(Triangle {
-        a: vertex(0, 0, colour),
-        b: vertex(320, 0, colour),
-        c: vertex(0, 320, colour),
-    })
-}
-
-/// A clear, and behind it a triangle that the scissor cuts to one pixel.
-fn one_scissor(alloc: Global) -> Result<Vec<Command>, Fail> {
-    let scissor = ClipRect {
-        x1: 5,
-        y1: 0,
-        x2: 6,
-        y2: 1,
-    };
-    Ok(vec![in alloc;
-        Command::Clear {
-            colour: RED,
-            depth: 65535,
-        },
-        Command::Set(Setting::Scissor(Some(scissor))),
-        corner_triangle(0, 255, 0, 255),
-        Command::Swap,
-        Command::Swap,
-    ]?)
-}
+/// A clear, and behind it a triangle that the scissor cuts to one pixel; and a frame without a clear.
+const ONE_SCISSOR: &str =
+    "dri 1\nscreen 8 1 000000\nheap 1 256\nwindow 1 -5 0 10 1 000000 1 up\nclient 1 1\nclear ff0000 65535\nset scissor 5 0 6 1\ntriangle 0 0 0 00ff00ff 0 0 320 0 0 00ff00ff 0 0 0 320 0 00ff00ff 0 0\nswap\nswap\nend\ndone\n";
 
 /// Half grey is added to black, and half of white blended over it.
-fn add_and_alpha(alloc: Global) -> Result<Vec<Command>, Fail> {
-    Ok(vec![in alloc;
-        Command::Clear {
-            colour: BLACK,
-            depth: 65535,
-        },
-        Command::Set(Setting::Blend(Blend::Add)),
-        corner_triangle(128, 128, 128, 255),
-        Command::Set(Setting::Blend(Blend::Alpha)),
-        corner_triangle(255, 255, 255, 128),
-        Command::Swap,
-    ]?)
-}
-
-/// A scene of one client with these commands.
-fn scene(alloc: Global, commands: Vec<Command>) -> Result<Scene, Fail> {
-    let window = Window {
-        number: 1,
-        x: -5,
-        y: 0,
-        width: 10,
-        height: 1,
-        background: BLACK,
-        owner: 1,
-        mapped: true,
-    };
-    let client = ClientScript {
-        number: 1,
-        window: 1,
-        textures: Sequence::new(alloc),
-        commands: Sequence::from_vec(commands),
-    };
-    let mut windows = Sequence::new(alloc);
-    windows.push(window)?;
-    let mut clients = Sequence::new(alloc);
-    clients.push(client)?;
-    Ok(Scene {
-        width: 8,
-        height: 1,
-        root: BLACK,
-        regions: 1,
-        region_size: 256,
-        windows,
-        clients,
-        changes: Sequence::new(alloc),
-        turns: Sequence::new(alloc),
-    })
-}
+const ADD_AND_ALPHA: &str =
+    "dri 1\nscreen 8 1 000000\nheap 1 256\nwindow 1 -5 0 10 1 000000 1 up\nclient 1 1\nclear 000000 65535\nset blend add\ntriangle 0 0 0 808080ff 0 0 320 0 0 808080ff 0 0 0 320 0 808080ff 0 0\nset blend alpha\ntriangle 0 0 0 ffffff80 0 0 320 0 0 ffffff80 0 0 0 320 0 ffffff80 0 0\nswap\nend\ndone\n";
 
 /// The only client.
 fn script(scene: &Scene) -> &ClientScript
@@ -182,7 +96,7 @@ fn script(scene: &Scene) -> &ClientScript
 /// At the scissor's edges, and in a frame that isn't there or has no clear.
 #[test]
 fn alone_in_a_scissor(rt: HostRuntime) -> Result<(), Fail> {
-    let scene = scene(rt.alloc(), one_scissor(rt.alloc())?)?;
+    let scene = read_scene(rt.alloc(), ONE_SCISSOR.as_bytes())?;
     assert!(rt; scene.in_range());
     assert!(rt; scene.clients.len() == 1);
     let script = script(&scene);
@@ -206,7 +120,7 @@ fn alone_in_a_scissor(rt: HostRuntime) -> Result<(), Fail> {
 
 #[test]
 fn alone_with_two_blends(rt: HostRuntime) -> Result<(), Fail> {
-    let scene = scene(rt.alloc(), add_and_alpha(rt.alloc())?)?;
+    let scene = read_scene(rt.alloc(), ADD_AND_ALPHA.as_bytes())?;
     assert!(rt; scene.in_range());
     assert!(rt; scene.clients.len() == 1);
     let script = script(&scene);

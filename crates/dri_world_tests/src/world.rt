@@ -1,10 +1,8 @@
 //! Scenes that were worked by hand: their journals, the lock word on the way, and pixels of the screen.
 
-use dri_base::{
-    Bytes, Change, ClientScript, Clients, Command, Entry, Event, Item, OutOfMemory, Rgb, Rgba,
-    Scene, Sequence, Setting, TexFormat, TexMode, TexShape, Texture, Textures, Triangle, Vertex,
-    Window,
-};
+use dri_base::{Event, OutOfMemory, Rgb, Scene};
+use dri_journal::print_journal;
+use dri_scene::read_scene;
 use dri_world::{Turned, World};
 use std::alloc::Global;
 use std::process::Abort;
@@ -29,657 +27,123 @@ const GREY: Rgb = Rgb {
     b: 0x40,
 };
 
-/// A triangle, in one hold more after the stale one.
-const ONE_TRIANGLE: &[Entry] = &[
-    Entry::Kernel {
-        client: 1,
-        found: 1,
-    },
-    Entry::Stale { client: 1 },
-    Entry::Leave { client: 1 },
-    Entry::Info { client: 1 },
-    Entry::Kernel {
-        client: 1,
-        found: 1,
-    },
-    Entry::Run {
-        client: 1,
-        place: 1,
-    },
-    Entry::Emit {
-        client: 1,
-        groups: 127,
-    },
-    Entry::Run {
-        client: 1,
-        place: 2,
-    },
-    Entry::Run {
-        client: 1,
-        place: 3,
-    },
-    Entry::Leave { client: 1 },
+/// A triangle of the upper left corner, with legs of four pixels, in one hold more after the stale one.
+const TRIANGLE: &[&str] = &[
+    "dri 1\nscreen 4 4 000000\nheap 1 256\nwindow 1 0 0 4 4 000000 1 up\n",
+    "client 1 1\nclear 000000 65535\n",
+    "triangle 0 0 0 ff0000ff 0 0 64 0 0 ff0000ff 0 0 0 64 0 ff0000ff 0 0\n",
+    "swap\nend\ndone\n",
 ];
+
+const TRIANGLE_JOURNAL: &str =
+    "journal 1\nkernel 1 1\nstale 1\nleave 1\ninfo 1\nkernel 1 1\nrun 1 1\nemit 1 127\nrun 1 2\nrun 1 3\nleave 1\ndone\n";
 
 /// The client dies in its second hold, which is light.
-const DIES: &[Entry] = &[
-    Entry::Kernel {
-        client: 1,
-        found: 1,
-    },
-    Entry::Stale { client: 1 },
-    Entry::Leave { client: 1 },
-    Entry::Info { client: 1 },
-    Entry::Kernel {
-        client: 1,
-        found: 1,
-    },
-    Entry::Run {
-        client: 1,
-        place: 1,
-    },
-    Entry::Run {
-        client: 1,
-        place: 2,
-    },
-    Entry::Leave { client: 1 },
-    Entry::Light { client: 1 },
-    Entry::Gone { client: 1 },
+const DIES: &[&str] = &[
+    "dri 1\nscreen 4 4 000000\nheap 1 256\nwindow 1 0 0 4 4 000000 1 up\n",
+    "client 1 1\nclear ff0000 65535\nswap\ndie\nend\ndone\n",
 ];
+
+const DIES_JOURNAL: &str =
+    "journal 1\nkernel 1 1\nstale 1\nleave 1\ninfo 1\nkernel 1 1\nrun 1 1\nrun 1 2\nleave 1\nlight 1\ngone 1\ndone\n";
+
+/// Two clients, each on its half of a screen of four by two pixels.
+const HALVES: &str =
+    "dri 1\nscreen 4 2 000000\nheap 1 256\nwindow 1 0 0 2 2 000000 1 up\nwindow 2 2 0 2 2 000000 2 up\n";
+
+const FIRST_HALF: &str =
+    "client 1 1\nclear ff0000 65535\ntriangle 0 0 0 0000ffff 0 0 64 0 0 0000ffff 0 0 0 64 0 0000ffff 0 0\ntriangle 0 0 0 ffffffff 0 0 64 0 0 ffffffff 0 0 0 64 0 ffffffff 0 0\nswap\nend\n";
+
+const SECOND_HALF: &str = "client 2 2\nclear 00ff00 65535\nswap\nend\n";
+
+/// Eight turns of client 1, and two of client 2, which waits.
+const TURNS: &str = "turns\n1\n1\n1\n1\n1\n1\n1\n1\n2\n2\n";
 
 /// Client 1 leaves by the kernel, since client 2 waits.
-const WAITS: &[Entry] = &[
-    Entry::Kernel {
-        client: 1,
-        found: 1,
-    },
-    Entry::Stale { client: 1 },
-    Entry::Leave { client: 1 },
-    Entry::Info { client: 1 },
-    Entry::Kernel {
-        client: 1,
-        found: 1,
-    },
-    Entry::Run {
-        client: 1,
-        place: 1,
-    },
-    Entry::Emit {
-        client: 1,
-        groups: 127,
-    },
-    Entry::Run {
-        client: 1,
-        place: 2,
-    },
-    Entry::Run {
-        client: 1,
-        place: 3,
-    },
-    Entry::Run {
-        client: 1,
-        place: 4,
-    },
-    Entry::Leave { client: 1 },
-    Entry::Kernel {
-        client: 2,
-        found: 0,
-    },
-    Entry::Stale { client: 2 },
-    Entry::Leave { client: 2 },
-    Entry::Info { client: 2 },
-    Entry::Kernel {
-        client: 2,
-        found: 1,
-    },
-    Entry::Run {
-        client: 2,
-        place: 1,
-    },
-    Entry::Run {
-        client: 2,
-        place: 2,
-    },
-    Entry::Leave { client: 2 },
-];
+const WAITS_JOURNAL: &str =
+    "journal 1\nkernel 1 1\nstale 1\nleave 1\ninfo 1\nkernel 1 1\nrun 1 1\nemit 1 127\nrun 1 2\nrun 1 3\nrun 1 4\nleave 1\nkernel 2 0\nstale 2\nleave 2\ninfo 2\nkernel 2 1\nrun 2 1\nrun 2 2\nleave 2\ndone\n";
 
 /// Client 1 is killed while it holds.
-const KILLED: &[Entry] = &[
-    Entry::Kernel {
-        client: 1,
-        found: 1,
-    },
-    Entry::Stale { client: 1 },
-    Entry::Leave { client: 1 },
-    Entry::Info { client: 1 },
-    Entry::Kernel {
-        client: 1,
-        found: 1,
-    },
-    Entry::Run {
-        client: 1,
-        place: 1,
-    },
-    Entry::Emit {
-        client: 1,
-        groups: 127,
-    },
-    Entry::Run {
-        client: 1,
-        place: 2,
-    },
-    Entry::Gone { client: 1 },
-    Entry::Kernel {
-        client: 2,
-        found: 0,
-    },
-    Entry::Stale { client: 2 },
-    Entry::Leave { client: 2 },
-    Entry::Info { client: 2 },
-    Entry::Kernel {
-        client: 2,
-        found: 1,
-    },
-    Entry::Run {
-        client: 2,
-        place: 1,
-    },
-    Entry::Run {
-        client: 2,
-        place: 2,
-    },
-    Entry::Leave { client: 2 },
-];
+const KILLED_JOURNAL: &str =
+    "journal 1\nkernel 1 1\nstale 1\nleave 1\ninfo 1\nkernel 1 1\nrun 1 1\nemit 1 127\nrun 1 2\ngone 1\nkernel 2 0\nstale 2\nleave 2\ninfo 2\nkernel 2 1\nrun 2 1\nrun 2 2\nleave 2\ndone\n";
 
 /// The window is moved, and the client draws a triangle with its texture and yields.
-const YIELDS: &[Entry] = &[
-    Entry::Change { place: 1 },
-    Entry::Kernel {
-        client: 1,
-        found: 1,
-    },
-    Entry::Stale { client: 1 },
-    Entry::Leave { client: 1 },
-    Entry::Info { client: 1 },
-    Entry::Kernel {
-        client: 1,
-        found: 1,
-    },
-    Entry::Run {
-        client: 1,
-        place: 1,
-    },
-    Entry::Run {
-        client: 1,
-        place: 2,
-    },
-    Entry::Run {
-        client: 1,
-        place: 3,
-    },
-    Entry::Place {
-        client: 1,
-        texture: 1,
-        first: 0,
-        count: 1,
-    },
-    Entry::Emit {
-        client: 1,
-        groups: 127,
-    },
-    Entry::Run {
-        client: 1,
-        place: 4,
-    },
-    Entry::Run {
-        client: 1,
-        place: 5,
-    },
-    Entry::Leave { client: 1 },
-    Entry::Light { client: 1 },
-    Entry::Run {
-        client: 1,
-        place: 6,
-    },
-    Entry::Leave { client: 1 },
-];
+const YIELDS: &str =
+    "dri 1\nscreen 2 1 000000\nheap 1 256\nwindow 1 0 0 1 1 000000 1 up\nclient 1 1\ntexture 1 l8 1 1 40\nset texmode replace\nset bind 1\nclear 000000 65535\ntriangle 0 0 0 ffffffff 0 0 64 0 0 ffffffff 0 0 0 64 0 ffffffff 0 0\nswap\nyield\n";
+
+const MOVED: &str = "end\nserver\nmove 1 1 0\nend\nturns\ns\nend\ndone\n";
+
+const YIELDS_JOURNAL: &str =
+    "journal 1\nchange 1\nkernel 1 1\nstale 1\nleave 1\ninfo 1\nkernel 1 1\nrun 1 1\nrun 1 2\nrun 1 3\nplace 1 1 0 1\nemit 1 127\nrun 1 4\nrun 1 5\nleave 1\nlight 1\nrun 1 6\nleave 1\ndone\n";
 
 /// The same, and then the client dies.
-const EACH_ENTRY: &[Entry] = &[
-    Entry::Change { place: 1 },
-    Entry::Kernel {
-        client: 1,
-        found: 1,
-    },
-    Entry::Stale { client: 1 },
-    Entry::Leave { client: 1 },
-    Entry::Info { client: 1 },
-    Entry::Kernel {
-        client: 1,
-        found: 1,
-    },
-    Entry::Run {
-        client: 1,
-        place: 1,
-    },
-    Entry::Run {
-        client: 1,
-        place: 2,
-    },
-    Entry::Run {
-        client: 1,
-        place: 3,
-    },
-    Entry::Place {
-        client: 1,
-        texture: 1,
-        first: 0,
-        count: 1,
-    },
-    Entry::Emit {
-        client: 1,
-        groups: 127,
-    },
-    Entry::Run {
-        client: 1,
-        place: 4,
-    },
-    Entry::Run {
-        client: 1,
-        place: 5,
-    },
-    Entry::Leave { client: 1 },
-    Entry::Light { client: 1 },
-    Entry::Run {
-        client: 1,
-        place: 6,
-    },
-    Entry::Leave { client: 1 },
-    Entry::Light { client: 1 },
-    Entry::Gone { client: 1 },
-];
+const EACH_ENTRY_JOURNAL: &str =
+    "journal 1\nchange 1\nkernel 1 1\nstale 1\nleave 1\ninfo 1\nkernel 1 1\nrun 1 1\nrun 1 2\nrun 1 3\nplace 1 1 0 1\nemit 1 127\nrun 1 4\nrun 1 5\nleave 1\nlight 1\nrun 1 6\nleave 1\nlight 1\ngone 1\ndone\n";
 
-/// Triangles of the upper left corner, with legs of four pixels.
-const RED_TRIANGLE: Command = Command::Triangle(Triangle {
-    a: Vertex {
-        x: 0,
-        y: 0,
-        z: 0,
-        colour: Rgba {
-            r: 255,
-            g: 0,
-            b: 0,
-            a: 255,
-        },
-        s: 0,
-        t: 0,
-    },
-    b: Vertex {
-        x: 64,
-        y: 0,
-        z: 0,
-        colour: Rgba {
-            r: 255,
-            g: 0,
-            b: 0,
-            a: 255,
-        },
-        s: 0,
-        t: 0,
-    },
-    c: Vertex {
-        x: 0,
-        y: 64,
-        z: 0,
-        colour: Rgba {
-            r: 255,
-            g: 0,
-            b: 0,
-            a: 255,
-        },
-        s: 0,
-        t: 0,
-    },
-});
-
-const BLUE_TRIANGLE: Command = Command::Triangle(Triangle {
-    a: Vertex {
-        x: 0,
-        y: 0,
-        z: 0,
-        colour: Rgba {
-            r: 0,
-            g: 0,
-            b: 255,
-            a: 255,
-        },
-        s: 0,
-        t: 0,
-    },
-    b: Vertex {
-        x: 64,
-        y: 0,
-        z: 0,
-        colour: Rgba {
-            r: 0,
-            g: 0,
-            b: 255,
-            a: 255,
-        },
-        s: 0,
-        t: 0,
-    },
-    c: Vertex {
-        x: 0,
-        y: 64,
-        z: 0,
-        colour: Rgba {
-            r: 0,
-            g: 0,
-            b: 255,
-            a: 255,
-        },
-        s: 0,
-        t: 0,
-    },
-});
-
-const WHITE_TRIANGLE: Command = Command::Triangle(Triangle {
-    a: Vertex {
-        x: 0,
-        y: 0,
-        z: 0,
-        colour: Rgba {
-            r: 255,
-            g: 255,
-            b: 255,
-            a: 255,
-        },
-        s: 0,
-        t: 0,
-    },
-    b: Vertex {
-        x: 64,
-        y: 0,
-        z: 0,
-        colour: Rgba {
-            r: 255,
-            g: 255,
-            b: 255,
-            a: 255,
-        },
-        s: 0,
-        t: 0,
-    },
-    c: Vertex {
-        x: 0,
-        y: 64,
-        z: 0,
-        colour: Rgba {
-            r: 255,
-            g: 255,
-            b: 255,
-            a: 255,
-        },
-        s: 0,
-        t: 0,
-    },
-});
-
-const CLEAR_BLACK: Command = Command::Clear {
-    colour: BLACK,
-    depth: 65535,
-};
-
-const CLEAR_RED: Command = Command::Clear {
-    colour: RED,
-    depth: 65535,
-};
-
-const CLEAR_GREEN: Command = Command::Clear {
-    colour: GREEN,
-    depth: 65535,
-};
-
-/// A scene, of which client k draws on window k and may have a texture of one texel; the word after its schedule and after
-/// its rounds, its journal, and pixels of the screen by their places.
+/// A scene's text in parts; the word after its schedule and after its rounds, its journal's text, and pixels of the screen
+/// by their places.
 struct Case {
-    width: u32,
-    height: u32,
-    windows: &'static [Window],
-    texels: &'static [u8],
-    scripts: &'static [&'static [Command]],
-    changes: &'static [Change],
-    turns: &'static [Item],
+    scene: &'static [&'static str],
     words: [u32; 2],
-    journal: &'static [Entry],
+    journal: &'static str,
     pixels: &'static [(usize, Rgb)],
 }
 
-/// A window of the whole screen, of four pixels' sides.
-const WHOLE: Window = Window {
-    number: 1,
-    x: 0,
-    y: 0,
-    width: 4,
-    height: 4,
-    background: BLACK,
-    owner: 1,
-    mapped: true,
-};
-
-/// The left half of a screen of four by two pixels.
-const LEFT: Window = Window {
-    number: 1,
-    x: 0,
-    y: 0,
-    width: 2,
-    height: 2,
-    background: BLACK,
-    owner: 1,
-    mapped: true,
-};
-
-/// The right half.
-const RIGHT: Window = Window {
-    number: 2,
-    x: 2,
-    y: 0,
-    width: 2,
-    height: 2,
-    background: BLACK,
-    owner: 2,
-    mapped: true,
-};
-
-/// The left of a screen's two pixels.
-const PIXEL: Window = Window {
-    number: 1,
-    x: 0,
-    y: 0,
-    width: 1,
-    height: 1,
-    background: BLACK,
-    owner: 1,
-    mapped: true,
-};
-
-const FIRST: Item = Item::Turn { actor: 1 };
-
-const SECOND: Item = Item::Turn { actor: 2 };
-
-const TRIANGLE: Case = Case {
-    width: 4,
-    height: 4,
-    windows: &[WHOLE],
-    texels: &[],
-    scripts: &[&[CLEAR_BLACK, RED_TRIANGLE, Command::Swap]],
-    changes: &[],
-    turns: &[],
-    words: [1, 2],
-    journal: ONE_TRIANGLE,
-    pixels: &[(0, RED), (2, RED), (3, BLACK), (5, RED), (6, BLACK)],
-};
-
 const CASES: [Case; 6] = [
-    TRIANGLE,
     Case {
-        width: 4,
-        height: 4,
-        windows: &[WHOLE],
-        texels: &[],
-        scripts: &[&[CLEAR_RED, Command::Swap, Command::Die]],
-        changes: &[],
-        turns: &[],
+        scene: TRIANGLE,
+        words: [1, 2],
+        journal: TRIANGLE_JOURNAL,
+        pixels: &[(0, RED), (2, RED), (3, BLACK), (5, RED), (6, BLACK)],
+    },
+    Case {
+        scene: DIES,
         words: [1, 0],
-        journal: DIES,
+        journal: DIES_JOURNAL,
         pixels: &[(0, BLACK)],
     },
     Case {
-        width: 4,
-        height: 2,
-        windows: &[LEFT, RIGHT],
-        texels: &[],
-        scripts: &[
-            &[CLEAR_RED, BLUE_TRIANGLE, WHITE_TRIANGLE, Command::Swap],
-            &[CLEAR_GREEN, Command::Swap],
-        ],
-        changes: &[],
-        turns: &[
-            FIRST, FIRST, FIRST, FIRST, FIRST, FIRST, FIRST, FIRST, SECOND, SECOND,
-        ],
+        scene: &[HALVES, FIRST_HALF, SECOND_HALF, TURNS, "end\ndone\n"],
         words: [0xC000_0002, 3],
-        journal: WAITS,
+        journal: WAITS_JOURNAL,
         pixels: &[(0, WHITE), (2, GREEN), (4, WHITE), (7, GREEN)],
     },
     Case {
-        width: 4,
-        height: 2,
-        windows: &[LEFT, RIGHT],
-        texels: &[],
-        scripts: &[
-            &[CLEAR_RED, BLUE_TRIANGLE, WHITE_TRIANGLE, Command::Swap],
-            &[CLEAR_GREEN, Command::Swap],
-        ],
-        changes: &[],
-        turns: &[
-            FIRST,
-            FIRST,
-            FIRST,
-            FIRST,
-            FIRST,
-            FIRST,
-            FIRST,
-            FIRST,
-            SECOND,
-            SECOND,
-            Item::Kill { client: 1 },
-            SECOND,
-        ],
+        scene: &[HALVES, FIRST_HALF, SECOND_HALF, TURNS, "x1\n2\nend\ndone\n"],
         words: [0x8000_0003, 3],
-        journal: KILLED,
+        journal: KILLED_JOURNAL,
         pixels: &[(0, BLACK), (2, GREEN)],
     },
     Case {
-        width: 2,
-        height: 1,
-        windows: &[PIXEL],
-        texels: &[0x40],
-        scripts: &[&[
-            Command::Set(Setting::TexMode(TexMode::Replace)),
-            Command::Set(Setting::Bind(Some(1))),
-            CLEAR_BLACK,
-            WHITE_TRIANGLE,
-            Command::Swap,
-            Command::Yield,
-        ]],
-        changes: &[Change::Move {
-            window: 1,
-            x: 1,
-            y: 0,
-        }],
-        turns: &[Item::Turn { actor: 0 }],
+        scene: &[YIELDS, MOVED],
         words: [1, 2],
-        journal: YIELDS,
+        journal: YIELDS_JOURNAL,
         pixels: &[(0, BLACK), (1, GREY)],
     },
     Case {
-        width: 2,
-        height: 1,
-        windows: &[PIXEL],
-        texels: &[0x40],
-        scripts: &[&[
-            Command::Set(Setting::TexMode(TexMode::Replace)),
-            Command::Set(Setting::Bind(Some(1))),
-            CLEAR_BLACK,
-            WHITE_TRIANGLE,
-            Command::Swap,
-            Command::Yield,
-            Command::Die,
-        ]],
-        changes: &[Change::Move {
-            window: 1,
-            x: 1,
-            y: 0,
-        }],
-        turns: &[Item::Turn { actor: 0 }],
+        scene: &[YIELDS, "die\n", MOVED],
         words: [1, 0],
-        journal: EACH_ENTRY,
+        journal: EACH_ENTRY_JOURNAL,
         pixels: &[(1, BLACK)],
     },
 ];
 
-/// A texture for each texel, of one grey texel.
-fn textures(alloc: Global, texels: &[u8]) -> Result<Textures, OutOfMemory> {
-    let mut textures = Textures::new(alloc);
-    for texel in texels {
-        let mut bytes = Bytes::new(alloc);
-        bytes.push(*texel)?;
-        textures.push(Texture {
-            number: 1,
-            shape: TexShape {
-                format: TexFormat::L8,
-                width: 1,
-                height: 1,
-            },
-            bytes,
-        })?;
+/// The most bytes of a scene's text.
+const MOST_BYTES: usize = 4096;
+
+/// The scene of a text.
+fn scene(rt: &impl Abort, alloc: Global, parts: &[&str]) -> Result<Scene, Fail> {
+    let mut text = Vec::new(alloc);
+    for part in parts {
+        text.extend_from_slice(part.as_bytes())?;
     }
-    Ok(textures)
+    assert!(rt; text.len() <= MOST_BYTES);
+    Ok(read_scene(alloc, text.as_slice())?)
 }
 
-/// The clients of a case.
-fn clients(alloc: Global, case: &Case) -> Result<Clients, OutOfMemory> {
-    let mut clients = Clients::new(alloc);
-    for (commands, window) in case.scripts.iter().zip(case.windows) {
-        clients.push(ClientScript {
-            number: window.number,
-            window: window.number,
-            textures: textures(alloc, case.texels)?,
-            commands: Sequence::from_vec(commands.to_vec(alloc)?),
-        })?;
-    }
-    Ok(clients)
-}
-
-/// The scene of a case.
-fn scene(alloc: Global, case: &Case) -> Result<Scene, OutOfMemory> {
-    Ok(Scene {
-        width: case.width,
-        height: case.height,
-        root: BLACK,
-        regions: 1,
-        region_size: 256,
-        windows: Sequence::from_vec(case.windows.to_vec(alloc)?),
-        clients: clients(alloc, case)?,
-        changes: Sequence::from_vec(case.changes.to_vec(alloc)?),
-        turns: Sequence::from_vec(case.turns.to_vec(alloc)?),
-    })
-}
-
-/// The world of a case.
-fn opened(rt: &impl Abort, alloc: Global, case: &Case) -> Result<World, Fail> {
-    let scene = scene(alloc, case)?;
+/// The world of a scene's text.
+fn opened(rt: &impl Abort, alloc: Global, parts: &[&str]) -> Result<World, Fail> {
+    let scene = scene(rt, alloc, parts)?;
     assert!(rt; scene.in_range());
     let world = World::new(alloc, Arc::new(alloc, scene)?)?;
     Ok(world)
@@ -708,7 +172,8 @@ fn shows(rt: &impl Abort, world: &World, pixels: &[(usize, Rgb)]) {
 
 /// Compares what a world answers with the case.
 fn answers(rt: &impl Abort, alloc: Global, world: &World, case: &Case) -> Result<(), OutOfMemory> {
-    assert!(rt; world.journal() == case.journal);
+    let journal = print_journal(alloc, world.journal())?;
+    assert!(rt; journal.as_slice() == case.journal.as_bytes());
     shows(rt, world, case.pixels);
     let area = world.sarea(alloc)?;
     assert!(rt; area.word() == world.word());
@@ -717,7 +182,7 @@ fn answers(rt: &impl Abort, alloc: Global, world: &World, case: &Case) -> Result
 
 /// Plays a case.
 fn holds(rt: &impl Abort, alloc: Global, case: &Case) -> Result<(), Fail> {
-    let mut world = opened(rt, alloc, case)?;
+    let mut world = opened(rt, alloc, case.scene)?;
     play(rt, alloc, &mut world, &case.words)?;
     answers(rt, alloc, &world, case)?;
     Ok(())
@@ -754,7 +219,7 @@ fn turns(rt: &impl Abort, alloc: Global, world: &mut World) -> Result<(), OutOfM
 
 #[test]
 fn one_turn(rt: HostRuntime) -> Result<(), Fail> {
-    let mut world = opened(&rt, rt.alloc(), &TRIANGLE)?;
+    let mut world = opened(&rt, rt.alloc(), TRIANGLE)?;
     turns(&rt, rt.alloc(), &mut world)?;
     Ok(())
 }
