@@ -1,5 +1,5 @@
 -- Why an entry isn't legal: its conditions in the order in which they are looked at, each with the reason that is told where it isn't met.
-use Rattle.std.specs.Prelude.{◌≡◌, ◌⊎◌, ◌+◌, ◌==◌, ◌&&◌, ◌||◌, ℕ, Bool, true, List, [], ◌∷◌, Option, Some, None, Result, Ok, Err, if◌then◌else◌, is_none, length, nat_le, not, Contains}
+use Rattle.std.specs.Prelude.{◌≡◌, ◌⊎◌, ◌+◌, ◌==◌, ◌&&◌, ◌||◌, Bool, true, List, [], ◌∷◌, Option, Some, None, Result, Ok, Err, if◌then◌else◌, is_none, length, nat_le, not, Contains}
 use Rattle.dri_base.specs.Ranges.{client_numbers}
 use Rattle.dri_base.specs.Scenes.{command_at, is_named, regions_needed}
 use Rattle.dri_base.specs.declared.journal.Entry.{Entry}
