@@ -10,4 +10,6 @@ mod journal;
 #[cfg(test)]
 mod picture;
 #[cfg(test)]
+mod replayed;
+#[cfg(test)]
 mod scene;
