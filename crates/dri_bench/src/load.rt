@@ -1,7 +1,7 @@
 //! The load of one client, as scenes for timing have it: twenty frames, over and over, in a window of 280 by 220. Each is a
 //! clear, a texture that is bound, two textured triangles with depth, and a swap.
 
-ghost use Rattle.std.specs.Prelude.{◌≤◌, ◌×◌};
+ghost use Rattle.std.specs.Prelude.{◌≤◌};
 ghost use Rattle.dri_base.specs.Ranges.{TriangleInRange, VertexInRange};
 
 use dri_base::{ClipRect, Point, Rgb, Rgba, Steps, Triangle, Vertex};
