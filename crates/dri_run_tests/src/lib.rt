@@ -6,4 +6,6 @@ mod beside;
 #[cfg(test)]
 mod run;
 #[cfg(test)]
+mod solo_and_make;
+#[cfg(test)]
 mod threads;

@@ -12,27 +12,28 @@ const ROOT: &str = "dri 1\nscreen 1 1 000040\nheap 1 256\ndone\n";
 
 /// A client's frame in a window of the whole screen: what stands before its triangle, the triangle, and what stands after
 /// it.
-const CLEARED: &str =
+pub(crate) const CLEARED: &str =
     "dri 1\n#a window and a client\nscreen 4 4 000040\nheap 1 256\nwindow 1 0 0 4 4 101010 1 up\n\nclient 1 1\nclear 000000 65535\n";
 
-const TRIANGLE: &str = "triangle 0 0 0 ff0000ff 0 0 64 0 0 ff0000ff 0 0 0 64 0 ff0000ff 0 0\n";
+pub(crate) const TRIANGLE: &str =
+    "triangle 0 0 0 ff0000ff 0 0 64 0 0 ff0000ff 0 0 0 64 0 ff0000ff 0 0\n";
 
 /// Its three points are one.
 const POINT: &str = "triangle 5 5 0 ff0000ff 0 0 5 5 0 ff0000ff 0 0 5 5 0 ff0000ff 0 0\n";
 
-const SWAPPED: &str = "swap\nend\ndone\n";
+pub(crate) const SWAPPED: &str = "swap\nend\ndone\n";
 
 const CLEARED_PIXELS: &[u8] =
     b"P6\n4 4\n255\n\x00\x00\x00\x00\x00\x00\x00\x00\x00\x00\x00\x00\x00\x00\x00\x00\x00\x00\x00\x00\x00\x00\x00\x00\x00\x00\x00\x00\x00\x00\x00\x00\x00\x00\x00\x00\x00\x00\x00\x00\x00\x00\x00\x00\x00\x00\x00\x00";
 
-const TRIANGLE_PIXELS: &[u8] =
+pub(crate) const TRIANGLE_PIXELS: &[u8] =
     b"P6\n4 4\n255\n\xff\x00\x00\xff\x00\x00\xff\x00\x00\x00\x00\x00\xff\x00\x00\xff\x00\x00\x00\x00\x00\x00\x00\x00\xff\x00\x00\x00\x00\x00\x00\x00\x00\x00\x00\x00\x00\x00\x00\x00\x00\x00\x00\x00\x00\x00\x00\x00";
 
 const TRIANGLE_JOURNAL: &str =
     "journal 1\nkernel 1 1\nstale 1\nleave 1\ninfo 1\nkernel 1 1\nrun 1 1\nemit 1 127\nrun 1 2\nrun 1 3\nleave 1\ndone\n";
 
 /// Two frames of one client, and what may stand behind its block.
-const FRAMES: &str =
+pub(crate) const FRAMES: &str =
     "dri 1\nscreen 2 1 000000\nheap 1 256\nwindow 1 0 0 2 1 111111 1 up\nclient 1 1\nclear ff0000 65535\nswap\nclear 0000ff 65535\nswap\nend\n";
 
 const FRAMES_JOURNAL: &str =
@@ -76,7 +77,7 @@ const KILLED_JOURNAL: &str =
     "journal 1\nkernel 1 1\nstale 1\nleave 1\ninfo 1\nkernel 1 1\nrun 1 1\nemit 1 127\nrun 1 2\ngone 1\nkernel 2 0\nstale 2\nleave 2\ninfo 2\nkernel 2 1\nrun 2 1\nrun 2 2\nleave 2\ndone\n";
 
 /// A scissor, in a window that begins left of the screen.
-const SCISSOR: &str =
+pub(crate) const SCISSOR: &str =
     "dri 1\nscreen 8 1 000000\nheap 1 256\nwindow 1 -5 0 10 1 111111 1 up\nclient 1 1\nclear ff0000 65535\nset scissor 5 0 6 1\ntriangle 0 0 0 00ff00ff 0 0 320 0 0 00ff00ff 0 0 0 320 0 00ff00ff 0 0\nswap\nend\ndone\n";
 
 /// Two blends over two clip rectangles.
@@ -103,17 +104,17 @@ const TWO_TEXTURES_JOURNAL: &str =
     "journal 1\nkernel 1 1\nstale 1\nleave 1\ninfo 1\nkernel 1 1\nrun 1 1\nrun 1 2\nrun 1 3\nplace 1 1 0 1\nemit 1 127\nrun 1 4\nrun 1 5\nleave 1\nkernel 2 2\nstale 2\nleave 2\ninfo 2\nkernel 2 1\nrun 2 1\nrun 2 2\nrun 2 3\nplace 2 1 0 1\nemit 2 127\nrun 2 4\nrun 2 5\nleave 2\nkernel 1 3\nrun 1 6\nplace 1 1 0 1\nemit 1 127\nrun 1 7\nrun 1 8\nleave 1\ndone\n";
 
 /// The parts of a text, each with how often it comes.
-type Text = &'static [(&'static str, u32)];
+pub(crate) type Text = &'static [(&'static str, u32)];
 
 /// The program's words and the text that it reads; the numbers of the read, of the write and of the note that fail, where
 /// 0 is none; and the number that it ends with, its picture and its notes.
-struct Case(
-    &'static [&'static str],
-    Text,
-    [u64; 3],
-    u8,
-    &'static [u8],
-    &'static str,
+pub(crate) struct Case(
+    pub(crate) &'static [&'static str],
+    pub(crate) Text,
+    pub(crate) [u64; 3],
+    pub(crate) u8,
+    pub(crate) &'static [u8],
+    pub(crate) &'static str,
 );
 
 const PLAYED: &[&str] = &["turns"];
@@ -219,7 +220,7 @@ const SCENES: [Case; 10] = [
     ),
 ];
 
-const USAGE: &str = "dri: usage: turns | run | solo C K | check | make N | sarea\n";
+pub(crate) const USAGE: &str = "dri: usage: turns | run | solo C K | check | make N | sarea\n";
 
 /// Texts that are refused, one byte more than a text may have, and words of no form.
 const REFUSALS: [Case; 8] = [
@@ -503,7 +504,7 @@ const SHOWN: [Shown; 4] = [
 ];
 
 /// The list of one call, or of none.
-fn calls(alloc: Global, call: u64) -> Result<CallList, Fail> {
+pub(crate) fn calls(alloc: Global, call: u64) -> Result<CallList, Fail> {
     let mut list = CallList::new(alloc);
     if call > 0 {
         list.push(call)?;
@@ -512,7 +513,7 @@ fn calls(alloc: Global, call: u64) -> Result<CallList, Fail> {
 }
 
 /// The words of a command line.
-fn words_of(alloc: Global, line: &[&str]) -> Result<Vec<String>, Fail> {
+pub(crate) fn words_of(alloc: Global, line: &[&str]) -> Result<Vec<String>, Fail> {
     let mut words = Vec::new(alloc);
     for word in line {
         words.push(String::from_str(alloc, word)?)?;
@@ -563,7 +564,7 @@ fn holds(rt: &impl Abort, alloc: Global, case: &Case) -> Result<(), Fail> {
 }
 
 /// Runs each case.
-fn each_holds(rt: &impl Abort, alloc: Global, cases: &[Case]) -> Result<(), Fail> {
+pub(crate) fn each_holds(rt: &impl Abort, alloc: Global, cases: &[Case]) -> Result<(), Fail> {
     for case in cases {
         holds(rt, alloc, case)?;
     }
