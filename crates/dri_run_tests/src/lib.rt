@@ -4,6 +4,10 @@
 #[cfg(test)]
 mod beside;
 #[cfg(test)]
+mod deaths;
+#[cfg(test)]
+mod ends;
+#[cfg(test)]
 mod run;
 #[cfg(test)]
 mod solo_and_make;

@@ -29,7 +29,7 @@ const CLEARED_PIXELS: &[u8] =
 pub(crate) const TRIANGLE_PIXELS: &[u8] =
     b"P6\n4 4\n255\n\xff\x00\x00\xff\x00\x00\xff\x00\x00\x00\x00\x00\xff\x00\x00\xff\x00\x00\x00\x00\x00\x00\x00\x00\xff\x00\x00\x00\x00\x00\x00\x00\x00\x00\x00\x00\x00\x00\x00\x00\x00\x00\x00\x00\x00\x00\x00\x00";
 
-const TRIANGLE_JOURNAL: &str =
+pub(crate) const TRIANGLE_JOURNAL: &str =
     "journal 1\nkernel 1 1\nstale 1\nleave 1\ninfo 1\nkernel 1 1\nrun 1 1\nemit 1 127\nrun 1 2\nrun 1 3\nleave 1\ndone\n";
 
 /// Two frames of one client, and what may stand behind its block.
@@ -67,8 +67,11 @@ const BESIDE_JOURNAL: &str =
     "journal 1\nkernel 1 1\nstale 1\nleave 1\ninfo 1\nkernel 1 1\nrun 1 1\nrun 1 2\nleave 1\nchange 1\nchange 2\nkernel 1 1\nrun 1 3\nleave 1\ndone\n";
 
 /// Two clients, one of which waits.
-const WAITING: &str =
-    "dri 1\nscreen 4 2 000000\nheap 1 256\nwindow 1 0 0 2 2 111111 1 up\nwindow 2 2 0 2 2 222222 2 up\nclient 1 1\nclear ff0000 65535\ntriangle 0 0 0 0000ffff 0 0 64 0 0 0000ffff 0 0 0 64 0 0000ffff 0 0\ntriangle 0 0 0 ffffffff 0 0 64 0 0 ffffffff 0 0 0 64 0 ffffffff 0 0\nswap\nend\nclient 2 2\nclear 00ff00 65535\nswap\nend\nturns\n1\n1\n1\n1\n1\n1\n1\n1\n2\n2\n";
+pub(crate) const WAITING: &str =
+    "dri 1\nscreen 4 2 000000\nheap 1 256\nwindow 1 0 0 2 2 111111 1 up\nwindow 2 2 0 2 2 222222 2 up\nclient 1 1\nclear ff0000 65535\ntriangle 0 0 0 0000ffff 0 0 64 0 0 0000ffff 0 0 0 64 0 0000ffff 0 0\ntriangle 0 0 0 ffffffff 0 0 64 0 0 ffffffff 0 0 0 64 0 ffffffff 0 0\nswap\nend\nclient 2 2\nclear 00ff00 65535\nswap\nend\n";
+
+/// Its schedule, up to its last items: client 1 holds then.
+const WAITS: &str = "turns\n1\n1\n1\n1\n1\n1\n1\n1\n2\n2\n";
 
 const WAITING_JOURNAL: &str =
     "journal 1\nkernel 1 1\nstale 1\nleave 1\ninfo 1\nkernel 1 1\nrun 1 1\nemit 1 127\nrun 1 2\nrun 1 3\nrun 1 4\nleave 1\nkernel 2 0\nstale 2\nleave 2\ninfo 2\nkernel 2 1\nrun 2 1\nrun 2 2\nleave 2\ndone\n";
@@ -117,13 +120,13 @@ pub(crate) struct Case(
     pub(crate) &'static str,
 );
 
-const PLAYED: &[&str] = &["turns"];
+pub(crate) const PLAYED: &[&str] = &["turns"];
 
 const ROOT_PIXELS: &[u8] = b"P6\n1 1\n255\n\x00\x00\x40";
 
-const BLACK_PIXELS: &[u8] = b"P6\n2 1\n255\n\x00\x00\x00\x00\x00\x00";
+pub(crate) const BLACK_PIXELS: &[u8] = b"P6\n2 1\n255\n\x00\x00\x00\x00\x00\x00";
 
-const BLUE_PIXELS: &[u8] = b"P6\n2 1\n255\n\x00\x00\xff\x00\x00\xff";
+pub(crate) const BLUE_PIXELS: &[u8] = b"P6\n2 1\n255\n\x00\x00\xff\x00\x00\xff";
 
 const RED_PIXELS: &[u8] = b"P6\n2 2\n255\n\xff\x00\x00\xff\x00\x00\xff\x00\x00\xff\x00\x00";
 
@@ -133,7 +136,7 @@ const BESIDE_PIXELS: &[u8] =
 const WAITING_PIXELS: &[u8] =
     b"P6\n4 2\n255\n\xff\xff\xff\xff\xff\xff\x00\xff\x00\x00\xff\x00\xff\xff\xff\xff\xff\xff\x00\xff\x00\x00\xff\x00";
 
-const KILLED_PIXELS: &[u8] =
+pub(crate) const KILLED_PIXELS: &[u8] =
     b"P6\n4 2\n255\n\x00\x00\x00\x00\x00\x00\x00\xff\x00\x00\xff\x00\x00\x00\x00\x00\x00\x00\x00\xff\x00\x00\xff\x00";
 
 /// One frame, two frames, a killed client, one that dies, raised windows, and two clients.
@@ -204,7 +207,7 @@ const SCENES: [Case; 10] = [
     ),
     Case(
         PLAYED,
-        &[(WAITING, 1), ("end\ndone\n", 1)],
+        &[(WAITING, 1), (WAITS, 1), ("end\ndone\n", 1)],
         [0, 0, 0],
         0,
         WAITING_PIXELS,
@@ -212,7 +215,7 @@ const SCENES: [Case; 10] = [
     ),
     Case(
         PLAYED,
-        &[(WAITING, 1), ("x1\nend\ndone\n", 1)],
+        &[(WAITING, 1), (WAITS, 1), ("x1\nend\ndone\n", 1)],
         [0, 0, 0],
         0,
         KILLED_PIXELS,
@@ -283,7 +286,7 @@ const FAULTS: [Case; 3] = [
     ),
 ];
 
-const CHECKED: &[&str] = &["check"];
+pub(crate) const CHECKED: &[&str] = &["check"];
 
 /// The first eight entries of the journal of two frames, and what stands behind the ninth.
 const FIRST_FRAME: &str =
@@ -371,7 +374,12 @@ const JOURNALS: [Case; 13] = [
     ),
     Case(
         CHECKED,
-        &[(WAITING, 1), ("x1\nend\ndone\n", 1), (KILLED_JOURNAL, 1)],
+        &[
+            (WAITING, 1),
+            (WAITS, 1),
+            ("x1\nend\ndone\n", 1),
+            (KILLED_JOURNAL, 1),
+        ],
         [0, 0, 0],
         0,
         b"entries 17 frames 1 stood 1 whole\n",
@@ -522,7 +530,7 @@ pub(crate) fn words_of(alloc: Global, line: &[&str]) -> Result<Vec<String>, Fail
 }
 
 /// Puts a part last, so often.
-fn push_part(text: &mut Vec<u8>, part: &str, times: u32) -> Result<(), Fail> {
+pub(crate) fn push_part(text: &mut Vec<u8>, part: &str, times: u32) -> Result<(), Fail> {
     for _ in 0..times {
         text.extend_from_slice(part.as_bytes())?;
     }
@@ -530,7 +538,7 @@ fn push_part(text: &mut Vec<u8>, part: &str, times: u32) -> Result<(), Fail> {
 }
 
 /// A text in memory.
-fn bytes_of(alloc: Global, parts: &[(&str, u32)]) -> Result<Bytes, Fail> {
+pub(crate) fn bytes_of(alloc: Global, parts: &[(&str, u32)]) -> Result<Bytes, Fail> {
     let mut text = Vec::new(alloc);
     for (part, times) in parts {
         push_part(&mut text, part, *times)?;
