@@ -1,6 +1,6 @@
 //! The worked triangles.
 
-ghost use Rattle.std.specs.Prelude.{◌≡◌, ◌≤ℤ◌, ◌<ℤ◌, neg_ℤ, pos};
+ghost use Rattle.std.specs.Prelude.{◌≡◌, neg_ℤ, pos};
 ghost use Rattle.dri_base.specs.Coverage.{area, centre, turned, weighed};
 ghost use Rattle.dri_base.specs.Ranges.{IsVertexPlace, TriangleInRange, VertexInRange};
 ghost use Rattle.dri_raster.specs.Walks.{IsNear};
@@ -179,15 +179,16 @@ fn triangle<R: Abort>(rt: &R, places: [(i32, i32); 3]) -> Triangle
 }
 
 /// Whether the span of row y in a rectangle has exactly the columns that the triangle covers there, asked one by one.
-fn is_row_span(setup: &Setup, rect: &Rect, y: i32) -> bool
-    requires rect { IsNear rect.now }
-    requires y { (rect.now.y1 ≤ℤ y) × (y <ℤ rect.now.y2) }
+fn is_row_span<R: Abort>(rt: &R, setup: &Setup, rect: &Rect, y: i32) -> bool
+    requires { IsNear rect.now }
 {
+    assert!(rt; -4096 <= y && y <= 4096);
     let span = setup.span(y, rect).unwrap_or(Span {
         x1: rect.x1,
         x2: rect.x1,
     });
     for x in rect.x1..rect.x2 {
+        assert!(rt; -4096 <= x && x <= 4096);
         if setup.covers(x, y) != (span.x1 <= x && x < span.x2) {
             return false;
         }
@@ -196,11 +197,11 @@ fn is_row_span(setup: &Setup, rect: &Rect, y: i32) -> bool
 }
 
 /// Whether so is the span of each row.
-fn are_row_spans(setup: &Setup, rect: &Rect) -> bool
+fn are_row_spans<R: Abort>(rt: &R, setup: &Setup, rect: &Rect) -> bool
     requires { IsNear rect.now }
 {
     for y in rect.y1..rect.y2 {
-        if !is_row_span(setup, rect, y) {
+        if !is_row_span(rt, setup, rect, y) {
             return false;
         }
     }
@@ -226,8 +227,8 @@ fn odd(rt: HostRuntime) -> Result<(), Fail> {
         let middle: Vec<Point> = setup.for_rect(&MIDDLE).collect(rt.alloc())?;
         assert_eq!(rt; square.len(), in_square);
         assert_eq!(rt; middle.len(), in_middle);
-        assert!(rt; are_row_spans(&setup, &SQUARE));
-        assert!(rt; are_row_spans(&setup, &MIDDLE));
+        assert!(rt; are_row_spans(&rt, &setup, &SQUARE));
+        assert!(rt; are_row_spans(&rt, &setup, &MIDDLE));
     }
     Ok(())
 }
