@@ -164,7 +164,7 @@ struct Answer {
 
 /// What the program answers to words over a text, whose read of this number fails. There is room for a picture or a scene
 /// of a million bytes.
-fn answer(alloc: Global, line: &[&str], text: Bytes, failing: u64) -> Result<Answer, Fail> {
+fn answered(alloc: Global, line: &[&str], text: Bytes, failing: u64) -> Result<Answer, Fail> {
     let mut input = MemorySource::new(text, 4096, calls(alloc, failing)?);
     let mut picture = MemorySink::new(alloc, 1_000_000, 4096, calls(alloc, 0)?)?;
     let mut notes = MemorySink::new(alloc, 100_000, 4096, calls(alloc, 0)?)?;
@@ -192,7 +192,7 @@ fn text_in(alloc: Global, sink: &MemorySink) -> Result<Bytes, Fail> {
 #[test]
 fn no_forms(rt: HostRuntime) -> Result<(), Fail> {
     for line in &NO_FORMS {
-        let answer = answer(rt.alloc(), line, Bytes::new(rt.alloc()), 1)?;
+        let answer = answered(rt.alloc(), line, Bytes::new(rt.alloc()), 1)?;
         assert!(rt; answer.code == 1);
         assert!(rt; answer.picture.bytes().is_empty());
         assert!(rt; answer.notes.bytes() == USAGE.as_bytes());
@@ -201,22 +201,22 @@ fn no_forms(rt: HostRuntime) -> Result<(), Fail> {
 }
 
 /// Makes a scene, whose note is this. The source isn't called, so one that fails isn't noticed.
-fn makes(rt: &impl Abort, alloc: Global, count: &str, note: &str) -> Result<MemorySink, Fail> {
-    let made = answer(alloc, &["make", count], Bytes::new(alloc), 1)?;
+fn makes(rt: &impl Abort, alloc: Global, count: &str, note: &str) -> Result<Answer, Fail> {
+    let made = answered(alloc, &["make", count], Bytes::new(alloc), 1)?;
     assert!(rt; made.code == 0);
     assert!(rt; made.notes.bytes() == note.as_bytes());
-    Ok(made.picture)
+    Ok(made)
 }
 
 /// What `check` says of a scene with the journal that `turns` writes of it.
-fn checked(rt: &impl Abort, alloc: Global, scene: &MemorySink) -> Result<MemorySink, Fail> {
-    let played = answer(alloc, &["turns"], text_in(alloc, scene)?, 0)?;
+fn checked(rt: &impl Abort, alloc: Global, scene: &MemorySink) -> Result<Answer, Fail> {
+    let played = answered(alloc, &["turns"], text_in(alloc, scene)?, 0)?;
     assert!(rt; played.code == 0);
     let mut recording = scene.bytes().to_vec(alloc)?;
     recording.extend_from_slice(played.notes.bytes())?;
-    let checked = answer(alloc, &["check"], Bytes::from_vec(recording), 0)?;
+    let checked = answered(alloc, &["check"], Bytes::from_vec(recording), 0)?;
     assert!(rt; checked.code == 0);
-    Ok(checked.picture)
+    Ok(checked)
 }
 
 /// The report of a made scene's run has the counts of its note. The same number makes the same scene.
@@ -225,9 +225,14 @@ fn made_scenes(rt: HostRuntime) -> Result<(), Fail> {
     let alloc = rt.alloc();
     let one = makes(&rt, alloc, "1", "frames 20 stood 20\n")?;
     let again = makes(&rt, alloc, "1", "frames 20 stood 20\n")?;
-    assert!(rt; again.bytes() == one.bytes());
+    assert!(rt; again.picture.bytes() == one.picture.bytes());
     let four = makes(&rt, alloc, "4", "frames 80 stood 80\n")?;
-    let report = checked(&rt, alloc, &four)?;
-    assert!(rt; report.bytes().ends_with(b" frames 80 stood 80 whole\n"));
+    let report = checked(&rt, alloc, &four.picture)?;
+    assert!(rt;
+        report
+            .picture
+            .bytes()
+            .ends_with(b" frames 80 stood 80 whole\n")
+    );
     Ok(())
 }
