@@ -1,6 +1,6 @@
 /* What the benchmark measures the card's drawing against: the same pixel rule in plain C, by spans, with a running quotient
-   for each quantity and a reciprocal for the texture's sides. A pixel of back and front is a word of 32 bits, a depth one of 16. A part is run so many times; the sum
-   of what it leaves is printed. */
+   for each quantity and a reciprocal for the texture's sides. A pixel of back and front is a word of 32 bits, where the card has
+   three bytes; a depth has 16 bits. A part is run so many times; the sum of what it leaves is printed. */
 #include <stdint.h>
 #include <stdio.h>
 #include <stdlib.h>
@@ -95,8 +95,6 @@ static inline uint32_t channel(uint32_t pixel, int n) { return pixel >> 8 * n & 
 static inline uint32_t packed(uint32_t r, uint32_t g, uint32_t b) { return r | g << 8 | b << 16; }
 static inline int smallest(int a, int b, int c) { int m = a < b ? a : b; return m < c ? m : c; }
 static inline int greatest(int a, int b, int c) { int m = a > b ? a : b; return m > c ? m : c; }
-
-#define QUANTITIES(each) each(z) each(r) each(g) each(b) each(a) each(s) each(t)
 
 static inline __attribute__((always_inline)) void walk(const triangle *given, const image *texture, rect clip, int shade, int depth, int write, int blend, int mode) {
     triangle t = *given;
