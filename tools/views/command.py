@@ -5,6 +5,7 @@ from __future__ import annotations
 import argparse
 import os
 import sys
+from dataclasses import dataclass
 from typing import Callable, Iterable
 
 from .course import Course, NotInScene, course_of
@@ -45,6 +46,8 @@ def count_to(most: int = sys.maxsize) -> Callable[[str], int]:
 
 def bytes_of(path: str) -> bytes:
     """Returns a file's bytes; `-` is standard input."""
+    if path == "-" and sys.stdin is None:
+        raise Trouble("standard input is closed")
     try:
         if path == "-":
             return sys.stdin.buffer.read()
@@ -59,27 +62,34 @@ def text_of(path: str) -> str:
     return bytes_of(path).decode("latin-1")
 
 
-def scene_of(path: str) -> Scene:
+@dataclass(frozen=True)
+class Recording:
+    """A scene and a journal, and the texts that they were read from. Each file is read once, so it may be a pipe."""
+
+    scene_text: str
+    journal_text: str
+    scene: Scene
+    entries: list[Entry]
+
+
+def recording_of(scene_path: str, journal_path: str) -> Recording:
+    scene_text, journal_text = text_of(scene_path), text_of(journal_path)
     try:
-        return read_scene(text_of(path))
+        scene = read_scene(scene_text)
     except Refused as why:
-        raise Trouble(f"{path} is no scene: {why}") from None
-
-
-def journal_of(path: str) -> list[Entry]:
+        raise Trouble(f"{scene_path} is no scene: {why}") from None
     try:
-        return read_journal(text_of(path))
+        return Recording(scene_text, journal_text, scene, read_journal(journal_text))
     except Refused as why:
-        raise Trouble(f"{path} is no journal: {why}") from None
+        raise Trouble(f"{journal_path} is no journal: {why}") from None
 
 
-def course_over(scene_path: str, journal_path: str) -> Course:
-    """Returns what a journal did to its scene, both read from files."""
-    scene, journal = scene_of(scene_path), journal_of(journal_path)
+def course_over(recording: Recording, journal_path: str) -> Course:
+    """Returns what a journal, read from this file, did to its scene."""
     try:
-        return course_of(scene, journal)
+        return course_of(recording.scene, recording.entries)
     except NotInScene as why:
-        line = journal[why.number - 1].line
+        line = recording.entries[why.number - 1].line
         raise Trouble(f"{journal_path}: line {line}: {why} (tools/why tells more)") from None
 
 
@@ -88,8 +98,23 @@ def print_lines(lines: Iterable[str]) -> None:
 
 
 def print_text(text: str) -> None:
-    sys.stdout.write(text)
-    sys.stdout.flush()
+    # (the name of a file may be no text)
+    print_bytes(text.encode(errors="surrogateescape"))
+
+
+def print_bytes(data: bytes) -> None:
+    """Writes bytes to standard output, all of them."""
+    if sys.stdout is None:
+        raise Trouble("standard output is closed")
+    try:
+        sys.stdout.buffer.write(data)
+        sys.stdout.buffer.flush()
+    except OSError as why:
+        # (what is left isn't written at the end either)
+        os.dup2(os.open(os.devnull, os.O_WRONLY), sys.stdout.fileno())
+        if isinstance(why, BrokenPipeError):
+            raise
+        raise Trouble(f"standard output: {why.strerror}") from None
 
 
 def run(parser: argparse.ArgumentParser, tool: Callable[[argparse.Namespace], int]) -> None:
@@ -100,9 +125,6 @@ def run(parser: argparse.ArgumentParser, tool: Callable[[argparse.Namespace], in
     except (Trouble, NoPicture, Failed) as why:
         print(f"{parser.prog}: {why}", file=sys.stderr)
         sys.exit(TROUBLE)
-    except BrokenPipeError:
-        # (the reader has gone: nothing is left to be flushed at the end)
-        os.dup2(os.open(os.devnull, os.O_WRONLY), sys.stdout.fileno())
-        sys.exit(TROUBLE)
-    except KeyboardInterrupt:
+    except (BrokenPipeError, KeyboardInterrupt):
+        # (the reader has gone, or nobody waits any more)
         sys.exit(TROUBLE)
