@@ -70,7 +70,7 @@ class Standing:
         self.scene, self.stack, self.count, self.made = scene, Stack(scene), 0, 0
         self.holder: Optional[int] = None
         self.since = 0
-        self.left = SERVER_CONTEXT
+        self.word = SERVER_CONTEXT
         self.killed = scene.killed()
         self.parts = {it.number: Part(Phase.OUT if it.commands else Phase.ENDED) for it in scene.clients.values()}
 
@@ -99,7 +99,7 @@ class Standing:
         if not self.has(entry):
             raise NotInScene(self.count, entry)
         if entry.kind == "change":
-            self.holder, self.left, self.made = None, SERVER_CONTEXT, entry.numbers[0]
+            self.holder, self.word, self.made = None, SERVER_CONTEXT, entry.numbers[0]
             return self.stack.change(self.scene.changes[self.made - 1])
         client, part = entry.numbers[0], self.parts[entry.numbers[0]]
         if entry.kind in TAKES:
@@ -111,13 +111,13 @@ class Standing:
         elif entry.kind == "run":
             self.run(client, part, entry.numbers[1])
         elif entry.kind == "leave":
-            self.holder, self.left = None, context_of(client)
+            self.holder, self.word = None, context_of(client)
             part.phase = Phase.ASKING if part.phase is Phase.ASK else self.at_rest(client)
         elif entry.kind == "info":
-            self.holder, self.left = None, SERVER_CONTEXT
+            self.holder, self.word = None, SERVER_CONTEXT
             part.phase, part.told = Phase.OUT, self.stamp_of(client)
         elif entry.kind == "gone":
-            self.holder, self.left, part.phase = None, KERNEL_CONTEXT, Phase.DEAD
+            self.holder, self.word, part.phase = None, KERNEL_CONTEXT, Phase.DEAD
             return self.stack.bury(client)
         return {}
 
@@ -184,14 +184,14 @@ class Course:
     holds: list[Hold] = field(default_factory=list)
     stamps: dict[int, dict[int, int]] = field(default_factory=dict)
     frames: list[Frame] = field(default_factory=list)
-    left: dict[int, Drawing] = field(default_factory=dict)
+    drawings: dict[int, Drawing] = field(default_factory=dict)
     is_whole: bool = False
 
     def command(self, entry: Entry) -> Optional[Command]:
         """Returns the command that an entry ran."""
         return self.scene.clients[entry.numbers[0]].commands[entry.numbers[1] - 1] if entry.kind == "run" else None
 
-    def told(self, number: int) -> str:
+    def line(self, number: int) -> str:
         """Returns an entry with what it did, as a reader wants it: `change 2 (raise 3)`."""
         entry = self.entries[number - 1]
         command = self.command(entry)
@@ -207,7 +207,7 @@ class Course:
         head += f", entries {frame.clear} to {frame.swap},"
         if frame.loss is None:
             return f"{head} stood"
-        cause = f"entry {frame.loss.entry}, {self.told(frame.loss.entry)}"
+        cause = f"entry {frame.loss.entry}, {self.line(frame.loss.entry)}"
         return f"{head} didn't stand: {cause}, gave window {frame.window.number} stamp {frame.loss.stamp}"
 
     def window_of(self, client: int) -> int:
@@ -217,13 +217,13 @@ class Course:
 def course_of(scene: Scene, entries: Iterable[Entry]) -> Course:
     """Follows a journal, legal or not, as long as it names what the scene has."""
     course, standing = Course(scene, list(entries)), Standing(scene)
-    course.left = {client: Drawing() for client in scene.clients}
+    course.drawings = {client: Drawing() for client in scene.clients}
     for number, entry in enumerate(course.entries, 1):
-        told = standing.take(entry)
+        given = standing.take(entry)
         follow_hold(course, number, entry)
-        if told:
-            course.stamps[number] = told
-            lose(course, number, told)
+        if given:
+            course.stamps[number] = given
+            lose(course, number, given)
         if entry.kind == "run":
             follow_frame(course, standing, number, entry)
     course.is_whole = standing.is_whole()
@@ -241,10 +241,10 @@ def follow_hold(course: Course, number: int, entry: Entry) -> None:
         course.holds.append(Hold(entry.actor, number, number, is_ended))
 
 
-def lose(course: Course, number: int, told: dict[int, int]) -> None:
+def lose(course: Course, number: int, given: dict[int, int]) -> None:
     """Notes which begun frames lose their window's stamp, each to the first entry that took it."""
-    for client, drawing in course.left.items():
-        stamp = told.get(course.window_of(client))
+    for client, drawing in course.drawings.items():
+        stamp = given.get(course.window_of(client))
         if stamp and drawing.clear and not drawing.loss:
             drawing.loss = Loss(number, stamp)
 
@@ -252,11 +252,11 @@ def lose(course: Course, number: int, told: dict[int, int]) -> None:
 def follow_frame(course: Course, standing: Standing, number: int, entry: Entry) -> None:
     """A clear begins a frame anew, and a swap ends it."""
     client, command = entry.numbers[0], course.command(entry)
-    drawing = course.left[client]
+    drawing = course.drawings[client]
     if command and command.kind == "clear":
-        course.left[client] = Drawing(drawing.number, number)
+        course.drawings[client] = Drawing(drawing.number, number)
     elif command and command.kind == "swap":
         window = standing.stack.window(course.window_of(client))
         tops = standing.stack.tops()
         course.frames.append(Frame(client, drawing.number, drawing.clear, number, drawing.loss, window, tops))
-        course.left[client] = Drawing(drawing.number + 1)
+        course.drawings[client] = Drawing(drawing.number + 1)

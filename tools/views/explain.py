@@ -58,11 +58,11 @@ def fault_of_take(standing: Standing, entry: Entry, client: int) -> Optional[str
         return f"client {client} has said that its stamp is old, and has to be told its clips first"
     own = context_of(client)
     if entry.kind == "light":
-        return None if standing.left == own else f"the lock word doesn't name client {client}: it names {named(standing.left)}"
+        return None if standing.word == own else f"the lock word doesn't name client {client}: it names {named(standing.word)}"
     found = entry.numbers[1]
     if found == own:
         return f"the kernel finds another context in the word than client {client}'s own, which is {own}"
-    return None if found in (KERNEL_CONTEXT, standing.left) else f"the lock word names {named(standing.left)}"
+    return None if found in (KERNEL_CONTEXT, standing.word) else f"the lock word names {named(standing.word)}"
 
 
 def fault_in_hold(standing: Standing, entry: Entry, client: int) -> Optional[str]:
@@ -108,7 +108,7 @@ def may_come(program: Program, standing: Standing, entries: list[Entry]) -> Iter
     yield Entry("change", (standing.made + 1,))
     for client in standing.parts:
         yield Entry("light", (client,))
-        yield from (Entry("kernel", (client, found)) for found in sorted({KERNEL_CONTEXT, standing.left}))
+        yield from (Entry("kernel", (client, found)) for found in sorted({KERNEL_CONTEXT, standing.word}))
         yield Entry("info", (client,))
         yield Entry("gone", (client,))
 

@@ -140,7 +140,7 @@ def row_of(program: Program, course: Course, client: int, most: int) -> Row:
     frames = [it for it in course.frames if it.client == client and it.clear]
     notes = [f"window {course.window_of(client)}", *([f"{len(frames) - most} more"] if len(frames) > most else [])]
     death = next((number for number, it in enumerate(course.entries, 1) if it.kind == "gone" and it.client == client), None)
-    begun = f"frame {course.left[client].number} had begun: " if course.left[client].clear else ""
+    begun = f"frame {course.drawings[client].number} had begun: " if course.drawings[client].clear else ""
     end = f"{begun}the client died, entry {death}" if death else "" if frames else "no frame that begins with a clear"
     return Row(client, notes, [pair_of(program, course, it) for it in frames[:most]], end)
 

@@ -110,7 +110,7 @@ class Program:
         """Returns what the screen shows after so many entries of a run: of a scene that goes no further."""
         ended = self.done(["turns"], stopped(scene, entries[:count]).text())
         played = read_journal(ended.notes)[:count]
-        if [told(it) for it in played] != [told(it) for it in entries[:count]]:
+        if [deed(it) for it in played] != [deed(it) for it in entries[:count]]:
             raise Failed(f"the first {count} entries can't be played again as they stand in the journal")
         return read_ppm(ended.picture)
 
@@ -120,8 +120,8 @@ class Program:
         return read_ppm(self.done(["solo", str(client), str(frame)], replace(scene, windows=windows).text()).picture)
 
 
-def told(entry: Entry) -> tuple[str, tuple[int, ...]]:
-    """What an entry says but for how a client took the lock: that tells if others waited, and they don't where it is played."""
+def deed(entry: Entry) -> tuple[str, tuple[int, ...]]:
+    """What an entry does, but for how a client took the lock: that tells if others waited, and they don't where it is played."""
     return ("take", entry.numbers[:1]) if entry.kind in TAKES else (entry.kind, entry.numbers)
 
 

@@ -107,10 +107,10 @@ class Stack:
         numbers = touched(self.tops(), Tops(windows, self.screen), where)
         numbers |= {it.number for it in windows if corners[it.number] != (it.x, it.y)}
         self.windows = windows
-        told = {number: self.last_stamp + count for count, number in enumerate(sorted(numbers), 1)}
-        self.last_stamp += len(told)
-        self.stamps.update(told)
-        return told
+        given = {number: self.last_stamp + count for count, number in enumerate(sorted(numbers), 1)}
+        self.last_stamp += len(given)
+        self.stamps.update(given)
+        return given
 
 
 # What each kind of change makes of its window; a window that is mapped already isn't mapped again, and so on.

@@ -22,7 +22,7 @@ def short(value: Value) -> str:
     return f"{round(value, 1):g}" if isinstance(value, float) else str(value)
 
 
-def said(attributes: dict[str, Value]) -> str:
+def spelled(attributes: dict[str, Value]) -> str:
     """Returns attributes as a tag has them."""
     return "".join(f' {key.replace("_", "-")}="{html.escape(short(value))}"' for key, value in attributes.items())
 
@@ -39,7 +39,7 @@ class Svg:
         self.rect(0, 0, width, height, GROUND)
 
     def tag(self, name: str, /, **attributes: Value) -> None:
-        self.parts.append(f"<{name}{said(attributes)}/>")
+        self.parts.append(f"<{name}{spelled(attributes)}/>")
 
     def begin(self, hint: str) -> None:
         """Begins a group whose hint is shown where a pointer rests on it."""
@@ -65,7 +65,7 @@ class Svg:
         self, x: float, y: float, text: Value, size: float = 10, fill: str = INK, anchor: str = "start", **more: Value
     ) -> None:
         attributes: dict[str, Value] = {"x": x, "y": y, "font_size": size, "fill": fill, "text_anchor": anchor, **more}
-        self.parts.append(f"<text{said(attributes)}>{html.escape(str(text))}</text>")
+        self.parts.append(f"<text{spelled(attributes)}>{html.escape(str(text))}</text>")
 
     def picture(self, x: float, y: float, picture: Picture, edge: str) -> None:
         """Puts a picture with an edge of a colour round it."""

@@ -173,18 +173,18 @@ class Timeline:
 
     def draw_stamps(self, strip: Strip) -> None:
         """Each new stamp of a client's window, from the entry that gave it down to the client's lane."""
-        for number, told in self.course.stamps.items():
+        for number, given in self.course.stamps.items():
             if not strip.first <= number <= strip.last:
                 continue
             x, actor = self.x(strip, number), self.course.entries[number - 1].actor
-            others = [it for it in strip.actors if it not in (SERVER, actor) and self.course.window_of(it) in told]
+            others = [it for it in strip.actors if it not in (SERVER, actor) and self.course.window_of(it) in given]
             middles = [self.y(strip, it) + 5 + self.layout.bar / 2 for it in others]
             giver = self.y(strip, actor) + 5 + self.layout.bar / 2
             if others:
                 ends = min(giver, *middles), max(giver, *middles)
                 self.svg.line(x, ends[0] + self.layout.bar / 2, x, ends[1], BAD, stroke_width=1.1, stroke_dasharray="3 2")
             for client, middle in zip(others, middles):
-                self.draw_stamp(x, middle, told[self.course.window_of(client)])
+                self.draw_stamp(x, middle, given[self.course.window_of(client)])
 
     def draw_stamp(self, x: float, y: float, stamp: int) -> None:
         """The client's lane is empty at the entry, so the stamp stands where a hold would."""
@@ -220,11 +220,11 @@ class Timeline:
 def hint_of(course: Course, number: int) -> str:
     """Returns what is shown where a pointer rests on an entry."""
     entry = course.entries[number - 1]
-    said = f"entry {number}: {course.told(number)}"
+    said = f"entry {number}: {course.line(number)}"
     if entry.kind == "emit":
         said += f": {', '.join(groups_in(entry.numbers[1]))}"
-    told = course.stamps.get(number, {})
-    return said + "".join(f"; window {window} gets stamp {stamp}" for window, stamp in told.items())
+    given = course.stamps.get(number, {})
+    return said + "".join(f"; window {window} gets stamp {stamp}" for window, stamp in given.items())
 
 
 def draw_letter(

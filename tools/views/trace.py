@@ -57,7 +57,7 @@ def holds(course: Course) -> Iterator[Event]:
 def entries(course: Course) -> Iterator[Event]:
     for number, entry in enumerate(course.entries, 1):
         command = course.command(entry)
-        name = command.kind if command else course.told(number) if entry.kind == "change" else str(entry)
+        name = command.kind if command else course.line(number) if entry.kind == "change" else str(entry)
         yield slice_of(track_of(entry.actor), name, number, number, entry=number, told=hint_of(course, number))
         for window, stamp in course.stamps.get(number, {}).items():
             for client in (it for it in course.scene.clients if course.window_of(it) == window):
