@@ -75,7 +75,10 @@ def read_png(data: bytes) -> bytes:
     at, found = len(SIGNATURE), {b"IHDR": b"", b"IDAT": b""}
     while at < len(data):
         size, name = struct.unpack_from(">I4s", data, at)
-        found[name] = found.get(name, b"") + data[at + 8 : at + 8 + size]
+        part = data[at + 8 : at + 8 + size]
+        if data[at : at + size + 12] != chunk(name, part):
+            raise NoPicture(f"a part {name!r} of a PNG is damaged")
+        found[name] = found.get(name, b"") + part
         at += size + 12
     return found[b"IHDR"] + zlib.decompress(found[b"IDAT"])
 
