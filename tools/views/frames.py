@@ -137,8 +137,12 @@ class Sheet:
 
 def row_of(program: Program, course: Course, client: int, most: int) -> Row:
     """Returns the first so many of a client's frames that begin with a clear."""
-    frames = [it for it in course.frames if it.client == client and it.clear]
-    notes = [f"window {course.window_of(client)}", *([f"{len(frames) - most} more"] if len(frames) > most else [])]
+    swapped = [it for it in course.frames if it.client == client]
+    frames = [it for it in swapped if it.clear]
+    more, uncleared = len(frames) - most, len(swapped) - len(frames)
+    notes = [f"window {course.window_of(client)}"]
+    notes += [f"{more} more"] if more > 0 else []
+    notes += [f"{uncleared} without a clear"] if uncleared else []
     death = next((number for number, it in enumerate(course.entries, 1) if it.kind == "gone" and it.client == client), None)
     begun = f"frame {course.drawings[client].number} had begun: " if course.drawings[client].clear else ""
     end = f"{begun}the client died, entry {death}" if death else "" if frames else "no frame that begins with a clear"
