@@ -119,8 +119,8 @@ impl Work {
     }
 }
 
-/// A corner on the texture's edge.
-fn corner(x: u16, y: u16, z: u16, colour: Rgba, s: u16, t: u16) -> Vertex
+/// A corner of a triangle: its place, depth, colour and texture coordinates.
+pub fn corner(x: u16, y: u16, z: u16, colour: Rgba, s: u16, t: u16) -> Vertex
     requires x { x ≤ 32767 }
     requires y { y ≤ 32767 }
     ensures { VertexInRange result }

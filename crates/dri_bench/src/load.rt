@@ -1,20 +1,20 @@
 //! The load of one client, as scenes for timing have it: twenty frames, over and over, in a window of 280 by 220. Each is a
 //! clear, a texture that is bound, two textured triangles with depth, and a swap.
 
-ghost use Rattle.std.specs.Prelude.{◌≤◌};
-ghost use Rattle.dri_base.specs.Ranges.{TriangleInRange, VertexInRange};
+ghost use Rattle.dri_base.specs.Ranges.{TriangleInRange};
 
-use dri_base::{ClipRect, Point, Rgb, Rgba, Steps, Triangle, Vertex};
+use crate::drawing::corner;
+use dri_base::{ClipRect, Point, Rgb, Rgba, Steps, Triangle};
 use dri_card::Card;
 use dri_cmdbuf::Buffer;
 use std::alloc::Global;
 use std::sync::ledger::Ledger;
 
 /// How many frames there are, one after another.
-const FRAMES: u16 = 20;
+const FRAMES: u32 = 20;
 
 /// How many textures there are, bound in turn.
-const TEXTURES: u16 = 3;
+const TEXTURES: u8 = 3;
 
 /// The side of a texture, in texels.
 const SIDE: u16 = 64;
@@ -59,57 +59,39 @@ const GREENISH: Rgba = Rgba {
 /// The words of the registers: less, depth written, modulate.
 const WORDS: [u32; 5] = [0x5200_0001, 1, 1, 0x5200_0003, 2];
 
-fn vertex(x: u16, y: u16, z: u16, colour: Rgba, s: u16, t: u16) -> Vertex
-    requires x { x ≤ 32767 }
-    requires y { y ≤ 32767 }
-    ensures { VertexInRange result }
-{
-    Vertex {
-        x: i32::from(x),
-        y: i32::from(y),
-        z,
-        colour,
-        s,
-        t,
-    }
-}
-
 /// The upper half of the window, behind.
 fn far() -> Triangle
     ensures { TriangleInRange result }
 {
     Triangle {
-        a: vertex(0, 0, 1000, WHITE, 0, 0),
-        b: vertex(RIGHT, 0, 1000, WHITE, LAST, 0),
-        c: vertex(0, BOTTOM, 1000, WHITE, 0, LAST),
+        a: corner(0, 0, 1000, WHITE, 0, 0),
+        b: corner(RIGHT, 0, 1000, WHITE, LAST, 0),
+        c: corner(0, BOTTOM, 1000, WHITE, 0, LAST),
     }
 }
 
-/// The lower half, in front; it begins one pixel lower in each frame.
-fn near(frame: u16) -> Triangle
-    requires { frame ≤ 20 }
+/// The lower half, in front, by its frame's place from 0 on; it begins one pixel lower in each frame.
+fn near(place: u8) -> Triangle
     ensures { TriangleInRange result }
 {
     Triangle {
-        a: vertex(RIGHT, 16 * frame, 500, GREENISH, 0, 0),
-        b: vertex(RIGHT, BOTTOM, 500, GREENISH, LAST, 0),
-        c: vertex(0, BOTTOM, 500, GREENISH, 0, LAST),
+        a: corner(RIGHT, 16 * (u16::from(place) + 1), 500, GREENISH, 0, 0),
+        b: corner(RIGHT, BOTTOM, 500, GREENISH, LAST, 0),
+        c: corner(0, BOTTOM, 500, GREENISH, 0, LAST),
     }
 }
 
-/// A frame, by its number, 1 to 20.
-fn draw_frame<L: Ledger>(card: &mut Card, frame: u16, steps: &mut Steps<L>) -> Option<()>
-    requires { (1 ≤ frame) × (frame ≤ 20) }
-{
+/// A frame, by its place from 0 on.
+fn draw_frame<L: Ledger>(card: &mut Card, place: u8, steps: &mut Steps<L>) -> Option<()> {
     let ground = Rgb {
-        r: (10 * frame) as u8,
+        r: place.wrapping_add(1).wrapping_mul(10),
         g: 7,
         b: 0,
     };
-    let base = u32::from((frame - 1) % TEXTURES) * u32::from(BYTES);
+    let base = base_of(place % TEXTURES);
     let mut buffer = Buffer::new();
     let _ = buffer.push_triangle(&far());
-    let _ = buffer.push_triangle(&near(frame));
+    let _ = buffer.push_triangle(&near(place));
     card.clear(WINDOW, ground, 65_535, steps).ok()?;
     card.load_registers(&[0x5200_0005, 1, base, 64 + 64 * 65_536])
         .ok()?;
@@ -117,7 +99,12 @@ fn draw_frame<L: Ledger>(card: &mut Card, frame: u16, steps: &mut Steps<L>) -> O
     card.swap(WINDOW, steps).ok()
 }
 
-/// The bytes of a texture, by its number, 1 to 3.
+/// Where a texture stands in the card's memory, by its place from 0 on.
+fn base_of(place: u8) -> u32 {
+    u32::from(place) * u32::from(BYTES)
+}
+
+/// The bytes of a texture, by its number from 1 on.
 fn texels(alloc: Global, number: u16) -> Option<Vec<u8>> {
     let mut bytes = Vec::new(alloc);
     for y in 0..SIDE {
@@ -131,21 +118,18 @@ fn texels(alloc: Global, number: u16) -> Option<Vec<u8>> {
 }
 
 /// Sends a texture to its place in the card's memory.
-fn upload(alloc: Global, card: &mut Card, number: u16) -> Option<()>
-    requires { (1 ≤ number) × (number ≤ 3) }
-{
-    let bytes = texels(alloc, number)?;
+fn upload(alloc: Global, card: &mut Card, place: u8) -> Option<()> {
+    let bytes = texels(alloc, u16::from(place) + 1)?;
     if bytes.len() > usize::from(BYTES) {
         return None;
     }
-    let base = u32::from(number - 1) * u32::from(BYTES);
-    card.upload(base, bytes.as_slice()).ok()
+    card.upload(base_of(place), bytes.as_slice()).ok()
 }
 
 /// Makes a card ready for the frames.
 pub fn prepare(alloc: Global, card: &mut Card) -> Option<()> {
-    for number in 1..TEXTURES + 1 {
-        upload(alloc, card, number)?;
+    for place in 0..TEXTURES {
+        upload(alloc, card, place)?;
     }
     card.load_registers(&WORDS).ok()?;
     card.set_clip(WINDOW).ok()
@@ -154,7 +138,7 @@ pub fn prepare(alloc: Global, card: &mut Card) -> Option<()> {
 /// So many frames.
 pub fn draw<L: Ledger>(card: &mut Card, times: u32, steps: &mut Steps<L>) -> Option<()> {
     for n in 0..times {
-        draw_frame(card, (n % u32::from(FRAMES)) as u16 + 1, steps)?;
+        draw_frame(card, (n % FRAMES) as u8, steps)?;
     }
     Some(())
 }
