@@ -12,10 +12,10 @@ use Rattle.dri_base.specs.Ranges.{client_numbers}
 use Rattle.dri_base.specs.Scenes.{commands_of, command_at}
 use Rattle.dri_model.specs.Heaps as Heaps
 use Rattle.dri_model.specs.Heaps.{Heap, age_freed, allocated, classes_for, touched}
-use Rattle.dri_core.specs.Effects.{run_by, placed_by, taken_in, told, heap_after, after_leave}
+use Rattle.dri_core.specs.Effects.{heap_placed, run_at, run_by, placed_by, taken_in, told, heap_after, after_leave}
 use Rattle.dri_core.specs.EntryTable.{LegalEntry, after_entry}
 use Rattle.dri_core.specs.Phases.{Phase, Out, Old, In, Over, Ask, Asking, Ended, Dead, is_done}
-use Rattle.dri_core.specs.Privates.{Private, is_ready, used_run}
+use Rattle.dri_core.specs.Privates.{Private, is_ready, is_small, room_in, used_spot}
 use Rattle.dri_core.specs.Worlds.{World}
 use Rattle.dri_core.proofs.Endings.{has_command}
 use Rattle.dri_core.proofs.Lively.{Lively}
@@ -108,7 +108,12 @@ freed_near n h count = by_test (classes_for n h count == 0)
     by_test true = omega arith
     by_test false = omega arith
 
-pub drawn_near : (h : Heap) (run : Option Heaps.Run) (command : Option Command) → (heap_after h run command).global ≤ h.global + 1
+-- where there is room no age rises
+pub placed_near : (room : Option Heaps.Spot) (small : Bool) (n : ℕ) (h : Heap) (first count : ℕ) → (heap_placed room small n h (run_at first count)).global ≤ h.global + 2
+placed_near None small n h first count = omega (arith, freed_near n h count)
+placed_near (Some room) small n h first count = omega arith
+
+pub drawn_near : (h : Heap) (run : Option Heaps.Spot) (command : Option Command) → (heap_after h run command).global ≤ h.global + 1
 drawn_near h (Some run) (Some (Command_is.Triangle t)) = omega arith
 drawn_near h None (Some (Command_is.Triangle t)) = omega arith
 drawn_near h run _ = omega arith
@@ -128,9 +133,9 @@ stays_raised s w e sound lively legal = sum_stays (λ d. age_part s d ((after_en
 
 pub age_step : (s : Scene) (w : World) (e : Entry) → Sound s w → Lively s w → LegalEntry s w e → IsAgeBounded s w → IsAgeBounded s (after_entry s w e)
 age_step s w (Place c t first count) sound lively legal old =
-    omega (arith, old, freed_near s.regions w.heap count, raised s w (Place c t first count) c 2 sound lively legal (rw legal.0.0 refl) (rw (put_here w.client c (placed_by s w c t first count)) (placed_rises s w c t first count legal)))
+    omega (arith, old, placed_near (room_in s c (w.client c) t) (is_small s c t) s.regions w.heap first count, raised s w (Place c t first count) c 2 sound lively legal (rw legal.0.0 refl) (rw (put_here w.client c (placed_by s w c t first count)) (placed_rises s w c t first count legal)))
 age_step s w (Run c i) sound lively legal old =
-    omega (arith, old, drawn_near w.heap (used_run (w.client c)) (command_at s c i), raised s w (Run c i) c 1 sound lively legal (rw legal.0 refl) (rw (put_here w.client c (run_by s w c i)) (ran_rises s w c i legal (sound.main.started c))))
+    omega (arith, old, drawn_near w.heap (used_spot (w.client c)) (command_at s c i), raised s w (Run c i) c 1 sound lively legal (rw legal.0 refl) (rw (put_here w.client c (run_by s w c i)) (ran_rises s w c i legal (sound.main.started c))))
 age_step s w (Light c) sound lively legal old = omega (arith, old, stays_raised s w (Light c) sound lively legal)
 age_step s w (Kernel c found) sound lively legal old = omega (arith, old, stays_raised s w (Kernel c found) sound lively legal)
 age_step s w (Stale c) sound lively legal old = omega (arith, old, stays_raised s w (Stale c) sound lively legal)

@@ -6,7 +6,7 @@ use Rattle.dri_base.specs.declared.scene.Scene.{Scene}
 use Rattle.dri_base.specs.declared.state.Registers.{Registers}
 use Rattle.dri_base.specs.declared.state.State.{State}
 use Rattle.dri_base.specs.declared.texture.BoundTexture.{BoundTexture}
-use Rattle.dri_core.specs.Privates.{Private, loses, own_registers, run_of}
+use Rattle.dri_core.specs.Privates.{Private, loses, own_registers, spot_of}
 use Rattle.dri_core.specs.Runs.{IsClean, OwnerIsClean}
 use Rattle.dri_core.specs.Worlds.{World, put}
 use Rattle.dri_core.proofs.Parts.{put_here, put_keeps}
@@ -43,12 +43,12 @@ parts_of false b e = absurd (true≢false e)
 kept_depth : (old new : State) (g : Groups) → (dirtied old new g).depth ≡ false → (g.depth ≡ false) × (old.depth_func ≡ new.depth_func) × (old.depth_write ≡ new.depth_write)
 kept_depth old new g e = let h = or_parts _ _ e in let p = parts_of _ _ h.1 in (h.0, one_depth old.depth_func new.depth_func p.0, one_flag old.depth_write new.depth_write p.1)
 
--- a run that isn't lost is as it was
-pub kept_run : (f : ℕ → Bool) (placed : ℕ → Option Heaps.Run) (bound : Option ℕ) → loses f (run_of placed bound) ≡ false → run_of (λ t. lose f (placed t)) bound ≡ run_of placed bound
-kept_run f placed None e = refl
-kept_run f placed (Some t) e = by_run (placed t) e
+-- a spot that isn't lost is as it was
+pub kept_spot : (f : ℕ → Bool) (placed : ℕ → Option Heaps.Spot) (bound : Option ℕ) → loses f (spot_of placed bound) ≡ false → spot_of (λ t. lose f (placed t)) bound ≡ spot_of placed bound
+kept_spot f placed None e = refl
+kept_spot f placed (Some t) e = by_run (placed t) e
   where
-    by_run : (o : Option Heaps.Run) → loses f o ≡ false → lose f o ≡ o
+    by_run : (o : Option Heaps.Spot) → loses f o ≡ false → lose f o ≡ o
     by_run None e = refl
     by_run (Some run) e = rw e refl
 

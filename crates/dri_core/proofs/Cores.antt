@@ -139,6 +139,6 @@ word_is_clean s k sound tied c free mine out = sound.main.clean c (word_is_curre
 
 -- and so are the images of its placed textures, since it knows all ages
 pub word_has_images : (s : Scene) (k : Core) → Sound s k.world → Tied s k → WordHasImages s k
-word_has_images s k sound tied c free mine out t run placed =
+word_has_images s k sound tied c free mine out t spot placed =
     let known = (word_is_current s k sound tied c free mine out).local in
-    (sound.textures.held c t run (placed, λ r inside. omega (arith, known, sound.textures.ages r))).image
+    (sound.textures.held c t spot (placed, λ r inside. omega (arith, known, sound.textures.ages r))).image

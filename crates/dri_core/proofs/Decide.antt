@@ -13,10 +13,9 @@ use Rattle.dri_base.specs.declared.scene.Scene.{Scene}
 use Rattle.dri_base.specs.Scenes.{command_at, regions_needed}
 use Rattle.dri_model.specs.Groups.{same_number, bits, is_empty}
 use Rattle.dri_model.specs.Heaps as Heaps
-use Rattle.dri_model.specs.Heaps.{is_place_for}
 use Rattle.dri_core.specs.Worlds.{World}
-use Rattle.dri_core.specs.EntryTable.{LegalEntry, after_entry}
-use Rattle.dri_core.specs.Privates.{textured_with, is_triangle, is_ready}
+use Rattle.dri_core.specs.EntryTable.{LegalEntry, after_entry, is_start_for}
+use Rattle.dri_core.specs.Privates.{textured_with, is_triangle, is_ready, room_in}
 use Rattle.dri_core.specs.Runs.{LegalEntries}
 use Rattle.dri_core.specs.Phases.{same_phase}
 use Rattle.dri_core.specs.Decide.{is_die, is_legal_entry, are_legal_entries}
@@ -35,7 +34,7 @@ number_is (Some a) t e = ap Some (grind (arith, nat_tests))
 number_same : (o : Option ℕ) (t : ℕ) → o ≡ Some t → same_number o (Some t) ≡ true
 number_same o t e = rw e (grind (arith, nat_tests))
 
-none_is : (o : Option Heaps.Run) → is_none o ≡ true → o ≡ None
+none_is : (o : Option Heaps.Spot) → is_none o ≡ true → o ≡ None
 none_is None e = refl
 none_is (Some r) e = absurd (true≢false (sym e))
 
@@ -56,8 +55,8 @@ legal_is s w (Emit c groups) e =
     ((phase_same _ _ h.0, h.1), h.2, eqb-true groups (bits (w.client c).dirty) h.3, not-true (is_empty (w.client c).dirty) h.4)
 legal_is s w (Place c t first count) e =
     let h = five (same_phase (w.client c).phase In) (is_triangle (command_at s c (w.client c).place)) (same_number (textured_with (w.client c).state) (Some t)) (is_none ((w.client c).placed t))
-    ((count == regions_needed s c t) && is_place_for s.regions w.heap count first) e in
-    let q = and_parts (count == regions_needed s c t) (is_place_for s.regions w.heap count first) h.4 in
+    ((count == regions_needed s c t) && is_start_for (room_in s c (w.client c) t) s.regions w.heap count first) e in
+    let q = and_parts (count == regions_needed s c t) (is_start_for (room_in s c (w.client c) t) s.regions w.heap count first) h.4 in
     ((phase_same _ _ h.0, h.1), number_is (textured_with (w.client c).state) t h.2, none_is ((w.client c).placed t) h.3, eqb-true count (regions_needed s c t) q.0, q.1)
 legal_is s w (Run c i) e = grind (arith, nat_tests)
 legal_is s w (Leave c) e = grind (arith, nat_tests)

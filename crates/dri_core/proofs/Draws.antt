@@ -32,7 +32,7 @@ use Rattle.dri_model.specs.Heaps.{base_of}
 use Rattle.dri_core.specs.Solo.{drawn_by, drawn_at, image_at}
 use Rattle.dri_core.specs.Worlds.{World, clips_in}
 use Rattle.dri_core.specs.EntryTable.{LegalEntry, after_entry}
-use Rattle.dri_core.specs.Privates.{bound_at, bound_texture, run_of, is_ready_for, texture_used, can_run, can_draw}
+use Rattle.dri_core.specs.Privates.{bound_at, bound_texture, spot_of, is_ready_for, texture_used, can_run, can_draw}
 use Rattle.dri_core.specs.Runs.{after, LegalEntries, HoldRun, IsCurrent, HasBytes}
 use Rattle.dri_core.specs.Frames.{across, down, OwnAt, Own}
 use Rattle.dri_core.proofs.Invariant.{Invariant}
@@ -51,7 +51,7 @@ byte_same : (format : TexFormat) (f g : ℕ → ℕ) (n texels : ℕ) → n < te
 byte_same L8 f g n texels l h = rw (h n (omega arith)) refl
 byte_same Rgb565 f g n texels l h = rw (h (2 * n) (omega arith), h (2 * n + 1) (omega arith)) refl
 
-texel_same : (p : Texture) (f : ℕ → ℕ) (wrap : Wrap) (s t : ℕ) → IsWhole p → ((k : ℕ) → k < length p.bytes → f k ≡ get_or p.bytes k 0) →
+pub texel_same : (p : Texture) (f : ℕ → ℕ) (wrap : Wrap) (s t : ℕ) → IsWhole p → ((k : ℕ) → k < length p.bytes → f k ≡ get_or p.bytes k 0) →
     texel (record { shape = p.shape; byte = f }) wrap s t ≡ texel (record { shape = p.shape; byte = λ n. get_or p.bytes n 0 }) wrap s t
 texel_same p f wrap s t whole h =
     byte_same p.shape.format f (λ n. get_or p.bytes n 0) (texel_place p.shape wrap s t) (p.shape.width * p.shape.height)
@@ -59,29 +59,29 @@ texel_same p f wrap s t whole h =
     (λ k l. h k (omega (arith, whole.bytes, l)))
 
 -- with an image that has the texture's bytes the texel is the same
-parts_same : (size : ℕ) (memory : ℕ → ℕ) (mode : TexMode) (wrap : Wrap) (o : Option Texture) (r : Option Heaps.Run) (t : Shape) (x y : ℤ) (c : Rgba) → is_some r ≡ true →
-    ((run : Heaps.Run) → r ≡ Some run → HasBytes memory (base_of size run) (bytes_of o)) → ((p : Texture) → o ≡ Some p → IsWhole p) →
+parts_same : (size : ℕ) (memory : ℕ → ℕ) (mode : TexMode) (wrap : Wrap) (o : Option Texture) (r : Option Heaps.Spot) (t : Shape) (x y : ℤ) (c : Rgba) → is_some r ≡ true →
+    ((spot : Heaps.Spot) → r ≡ Some spot → HasBytes memory (base_of size spot) (bytes_of o)) → ((p : Texture) → o ≡ Some p → IsWhole p) →
     with_texel mode (card_image memory (bound_at size o r)) wrap t x y c ≡ with_texel mode (given_image o) wrap t x y c
 parts_same size memory mode wrap None r t x y c is has whole = refl
 parts_same size memory mode wrap (Some p) None t x y c is has whole = absurd (true≢false (sym is))
-parts_same size memory Mode_is.Off wrap (Some p) (Some run) t x y c is has whole = refl
-parts_same size memory Mode_is.Replace wrap (Some p) (Some run) t x y c is has whole =
-    ap (λ u. textured Mode_is.Replace u c) (texel_same p (λ n. memory (base_of size run + n)) wrap _ _ (whole p refl) (λ k l. has run refl k l))
-parts_same size memory Mode_is.Modulate wrap (Some p) (Some run) t x y c is has whole =
-    ap (λ u. textured Mode_is.Modulate u c) (texel_same p (λ n. memory (base_of size run + n)) wrap _ _ (whole p refl) (λ k l. has run refl k l))
+parts_same size memory Mode_is.Off wrap (Some p) (Some spot) t x y c is has whole = refl
+parts_same size memory Mode_is.Replace wrap (Some p) (Some spot) t x y c is has whole =
+    ap (λ u. textured Mode_is.Replace u c) (texel_same p (λ n. memory (base_of size spot + n)) wrap _ _ (whole p refl) (λ k l. has spot refl k l))
+parts_same size memory Mode_is.Modulate wrap (Some p) (Some spot) t x y c is has whole =
+    ap (λ u. textured Mode_is.Modulate u c) (texel_same p (λ n. memory (base_of size spot + n)) wrap _ _ (whole p refl) (λ k l. has spot refl k l))
 
-textured_same : (size : ℕ) (memory : ℕ → ℕ) (mode : TexMode) (wrap : Wrap) (textures : List Texture) (placed : ℕ → Option Heaps.Run) (bound : Option ℕ) (t : Shape) (x y : ℤ) (c : Rgba) →
+textured_same : (size : ℕ) (memory : ℕ → ℕ) (mode : TexMode) (wrap : Wrap) (textures : List Texture) (placed : ℕ → Option Heaps.Spot) (bound : Option ℕ) (t : Shape) (x y : ℤ) (c : Rgba) →
     is_ready_for placed (texture_used mode bound) ≡ true →
-    ((u : ℕ) (run : Heaps.Run) → placed u ≡ Some run → HasBytes memory (base_of size run) (bytes_of (texture_in textures u))) →
+    ((u : ℕ) (spot : Heaps.Spot) → placed u ≡ Some spot → HasBytes memory (base_of size spot) (bytes_of (texture_in textures u))) →
     ((u : ℕ) (p : Texture) → texture_in textures u ≡ Some p → IsWhole p) →
-    with_texel mode (card_image memory (bound_at size (texture_bound textures bound) (run_of placed bound))) wrap t x y c ≡ with_texel mode (own_image textures bound) wrap t x y c
+    with_texel mode (card_image memory (bound_at size (texture_bound textures bound) (spot_of placed bound))) wrap t x y c ≡ with_texel mode (own_image textures bound) wrap t x y c
 textured_same size memory Mode_is.Off wrap textures placed bound t x y c ready has whole = refl
 textured_same size memory Mode_is.Replace wrap textures placed None t x y c ready has whole = refl
 textured_same size memory Mode_is.Modulate wrap textures placed None t x y c ready has whole = refl
 textured_same size memory Mode_is.Replace wrap textures placed (Some u) t x y c ready has whole = parts_same size memory Mode_is.Replace wrap (texture_in textures u) (placed u) t x y c ready (has u) (whole u)
 textured_same size memory Mode_is.Modulate wrap textures placed (Some u) t x y c ready has whole = parts_same size memory Mode_is.Modulate wrap (texture_in textures u) (placed u) t x y c ready (has u) (whole u)
 
-fragment_same : (r : Rules) (a b : Option Image) (t : Shape) (x y : ℤ) (under : Pixel) → ((c : Rgba) → with_texel r.tex_mode a r.wrap t x y c ≡ with_texel r.tex_mode b r.wrap t x y c) → fragment r a t x y under ≡ fragment r b t x y under
+pub fragment_same : (r : Rules) (a b : Option Image) (t : Shape) (x y : ℤ) (under : Pixel) → ((c : Rgba) → with_texel r.tex_mode a r.wrap t x y c ≡ with_texel r.tex_mode b r.wrap t x y c) → fragment r a t x y under ≡ fragment r b t x y under
 fragment_same r a b t x y under h = rw h refl
 
 -- registers whose groups are all clean have the state's rules
@@ -139,8 +139,8 @@ card_same s w c i t x y under good sound legal can =
     own : w.owner ≡ c + 1
     own = current.owner
 
-    has : (u : ℕ) (run : Heaps.Run) → (w.client c).placed u ≡ Some run → HasBytes w.memory (base_of s.region_size run) (bytes_of (texture_in (textures_of s c) u))
-    has u run placed = (sound.textures.held c u run (placed, λ k _. omega (arith, sound.textures.ages k, current.local))).image
+    has : (u : ℕ) (spot : Heaps.Spot) → (w.client c).placed u ≡ Some spot → HasBytes w.memory (base_of s.region_size spot) (bytes_of (texture_in (textures_of s c) u))
+    has u spot placed = (sound.textures.held c u spot (placed, λ k _. omega (arith, sound.textures.ages k, current.local))).image
 
     is_state : (w.client c).state ≡ state_at (commands_of s c) i
     is_state = sound.main.state c ∙ ap (state_at (commands_of s c)) (sym legal.1)

@@ -15,15 +15,14 @@ use Rattle.dri_base.specs.declared.scene.Scene.{Scene}
 use Rattle.dri_base.proofs.RangeLemmas.{IsWellFormed}
 use Rattle.dri_base.specs.Scenes.{script_in, command_at, commands_of, regions_needed}
 use Rattle.dri_core.specs.Worlds.{World}
-use Rattle.dri_core.specs.Privates.{textured_with}
+use Rattle.dri_core.specs.Privates.{room_in, textured_with}
 use Rattle.dri_core.specs.Phases.{is_holding, is_done}
 use Rattle.dri_core.specs.Runs.{IsWholeWorld, Whole}
 use Rattle.dri_core.specs.Cores.{Core, opening_core, journal_of, is_next, is_queued}
 use Rattle.dri_core.specs.CoreRuns.{after_events, IsRun}
-use Rattle.dri_core.specs.Turns.{turn, turn_of, phase_turn, acting_turn, triangle_turn, emit_turn, or_waiting, server_turn, all_pass, round}
+use Rattle.dri_core.specs.Turns.{start_for, turn, turn_of, phase_turn, acting_turn, triangle_turn, emit_turn, or_waiting, server_turn, all_pass, round}
 use Rattle.dri_model.specs.Groups.{is_empty, bits}
 use Rattle.dri_model.specs.Heaps as Heaps
-use Rattle.dri_model.specs.Heaps.{lowest_place, classes_for}
 use Rattle.dri_core.proofs.Cores.{holding_live, journal_after, journal_is_hold_run, wanting_live}
 use Rattle.dri_core.proofs.TurnEvents.{Known, known_after}
 use Rattle.dri_core.proofs.Lively.{Lively, lively_after}
@@ -76,9 +75,9 @@ acts s w c (Some (Command_is.Triangle t)) some = triangle (textured_with (w.clie
     triangle None = emits (is_empty (w.client c).dirty) refl
     triangle (Some u) = by_place ((w.client c).placed u) refl
       where
-        by_place : (r : Option Heaps.Run) → (w.client c).placed u ≡ r → (e : Event) × (triangle_turn s w c (Some u) ≡ Some e)
+        by_place : (r : Option Heaps.Spot) → (w.client c).placed u ≡ r → (e : Event) × (triangle_turn s w c (Some u) ≡ Some e)
         by_place None h =
-            (Place c u (lowest_place s.regions w.heap (regions_needed s c u) (classes_for s.regions w.heap (regions_needed s c u))) (regions_needed s c u), rw h refl)
+            (Place c u (start_for (room_in s c (w.client c) u) s.regions w.heap (regions_needed s c u)) (regions_needed s c u), rw h refl)
         by_place (Some r) h = let x = emits (is_empty (w.client c).dirty) refl in (x.0, rw h x.1)
 acts s w c _ some = (_, refl)
 

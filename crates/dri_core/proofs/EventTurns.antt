@@ -13,13 +13,14 @@ use Rattle.dri_base.specs.Scenes.{command_at}
 use Rattle.dri_model.specs.Groups.{is_empty}
 use Rattle.dri_model.specs.Heaps as Heaps
 use Rattle.dri_model.specs.Heaps.{Heap, lowest_place, classes_for, is_place_for}
+use Rattle.dri_core.specs.EntryTable.{is_start_for}
 use Rattle.dri_core.specs.Worlds.{World}
-use Rattle.dri_core.specs.Privates.{is_triangle, can_run, can_draw, is_ready, is_ready_for, textured_with}
+use Rattle.dri_core.specs.Privates.{is_triangle, can_run, can_draw, is_ready, is_ready_for, room_in, textured_with}
 use Rattle.dri_core.specs.Phases.{is_holding, is_done}
 use Rattle.dri_core.specs.Cores.{Core, IsNext, IsFirst, is_queued}
 use Rattle.dri_core.specs.EventTable.{LegalEvent}
 use Rattle.dri_core.specs.Phases.{wants_in}
-use Rattle.dri_core.specs.Turns.{turn_of, acting_turn, triangle_turn, emit_turn, server_turn}
+use Rattle.dri_core.specs.Turns.{start_for, turn_of, acting_turn, triangle_turn, emit_turn, server_turn}
 use Rattle.dri_core.specs.Cores.{is_first}
 use Rattle.dri_core.proofs.Queues.{next_is, Queued}
 
@@ -43,7 +44,7 @@ pub at_triangle : (s : Scene) (w : World) (c : ℕ) (command : Option Command) �
 at_triangle s w c (Some (Command_is.Triangle t)) is = refl
 at_triangle s w c _ is = absurd (true≢false (sym is))
 
-pub some_there : (o : Option Heaps.Run) → is_some o ≡ true → is_none o ≡ false
+pub some_there : (o : Option Heaps.Spot) → is_some o ≡ true → is_none o ≡ false
 some_there None e = absurd (true≢false (sym e))
 some_there (Some r) e = refl
 
@@ -58,10 +59,17 @@ emit_is_turn s k c groups q possible =
 pub place_is_turn : (s : Scene) (k : Core) (c t first count : ℕ) → Queued s k → LegalEvent s k (Place c t first count) → turn_of s k c ≡ Some (Place c t first count)
 place_is_turn s k c t first count q possible =
     in_turn s k c q possible.0.0 ∙ at_triangle s k.world c (command_at s c (k.world.client c).place) possible.0.1 ∙ ap (triangle_turn s k.world c) possible.1
-    ∙ rw possible.2 (ap (λ n. Some (Place c t (lowest_place s.regions k.world.heap n (classes_for s.regions k.world.heap n)) n)) (sym possible.3) ∙ ap (λ f. Some (Place c t f count)) (sym at_lowest))
+    ∙ rw possible.2 (ap (λ n. Some (Place c t (start_for (room_in s c (k.world.client c) t) s.regions k.world.heap n) n)) (sym possible.3) ∙ ap (λ f. Some (Place c t f count)) (sym at_lowest))
   where
-    at_lowest : first ≡ lowest_place s.regions k.world.heap count (classes_for s.regions k.world.heap count)
-    at_lowest = eqb-true _ _ (and_parts (first == lowest_place s.regions k.world.heap count (classes_for s.regions k.world.heap count)) _ possible.4).0
+    at_lowest : first ≡ start_for (room_in s c (k.world.client c) t) s.regions k.world.heap count
+    at_lowest = by_room (room_in s c (k.world.client c) t) possible.4
+      where
+        same : (a b : ℕ) → (a == b) ≡ true → a ≡ b
+        same a b e = eqb-true a b e
+
+        by_room : (o : Option Heaps.Spot) → is_start_for o s.regions k.world.heap count first ≡ true → first ≡ start_for o s.regions k.world.heap count
+        by_room None e = same _ _ (and_parts (first == lowest_place s.regions k.world.heap count (classes_for s.regions k.world.heap count)) _ e).0
+        by_room (Some room) e = same first room.run.first e
 
 pub run_by_command : (s : Scene) (w : World) (c i : ℕ) (command : Option Command) → i ≡ (w.client c).place → can_run (can_draw (w.client c)) command ≡ true → acting_turn s w c command ≡ Some (Run c i)
 run_by_command s w c i (Some (Command_is.Triangle t)) e can =

@@ -11,14 +11,14 @@ use Rattle.dri_model.specs.Heaps.{is_newer}
 use Rattle.dri_core.specs.Worlds.{World}
 use Rattle.dri_base.specs.Texels.{texture_bound}
 use Rattle.dri_core.specs.Phases.{Ask, In}
-use Rattle.dri_core.specs.Privates.{bound_at, bound_texture, is_bound_lost, own_registers, run_of, state_by}
+use Rattle.dri_core.specs.Privates.{bound_at, bound_texture, is_bound_lost, own_registers, spot_of, state_by}
 use Rattle.dri_core.specs.Runs.{IsClean}
 use Rattle.dri_model.specs.Groups.{no_groups}
 use Rattle.dri_model.specs.Words.{loaded}
 use Rattle.dri_core.specs.EntryTable.{LegalEntry, after_entry}
 use Rattle.dri_core.specs.Effects.{after_leave, placed_by, run_by, taken_in, told}
 use Rattle.dri_core.proofs.Parts.{put_keeps}
-use Rattle.dri_core.proofs.Clean.{changed_clean, emitted_clean, kept_run, more_dirty, owned_clean, put_clean}
+use Rattle.dri_core.proofs.Clean.{changed_clean, emitted_clean, kept_spot, more_dirty, owned_clean, put_clean}
 use Rattle.dri_core.proofs.Invariant.{is_acting, Invariant, state_on}
 
 pub light : (s : Scene) (w : World) (c : ℕ) → IsWellFormed s → Invariant s w → LegalEntry s w (Light c) → Invariant s (after_entry s w (Light c))
@@ -59,7 +59,7 @@ kernel s w c found good inv legal = record {
     lost = is_newer w.heap (w.client c).local
 
     same : is_bound_lost (w.client c) lost ≡ false → bound_texture s c (taken_in s w c) ≡ bound_texture s c (w.client c)
-    same e = ap (bound_at s.region_size (texture_bound (textures_of s c) (w.client c).state.bound)) (kept_run lost (w.client c).placed (w.client c).state.bound e)
+    same e = ap (bound_at s.region_size (texture_bound (textures_of s c) (w.client c).state.bound)) (kept_spot lost (w.client c).placed (w.client c).state.bound e)
 
     owned : not (w.owner == c + 1) ≡ false → w.owner ≡ c + 1
     owned e = grind (arith, nat_tests)
@@ -169,5 +169,5 @@ ran s w c i good inv legal = record {
   nobody = grind (arith, nat_tests);
   started = λ d. put_keeps (λ k q. 0 < q.place) w.client c (run_by s w c i) d (omega arith) (inv.started d);
   state = λ d. grind (arith, nat_tests, inv.state d, state_on (commands_of s c) i (rw legal.1 (inv.started c)));
-  clean = put_clean s w c (run_by s w c i) inv.clean (λ own. changed_clean (w.client c).state (state_by (command_at s c i) (w.client c).state) (w.client c).dirty (λ b. bound_at s.region_size (texture_bound (textures_of s c) b) (run_of (w.client c).placed b)) w.registers (inv.clean c own));
+  clean = put_clean s w c (run_by s w c i) inv.clean (λ own. changed_clean (w.client c).state (state_by (command_at s c i) (w.client c).state) (w.client c).dirty (λ b. bound_at s.region_size (texture_bound (textures_of s c) b) (spot_of (w.client c).placed b)) w.registers (inv.clean c own));
 }

@@ -1,6 +1,8 @@
 -- Private parts, and the invariants of the world
 pub mod Parts
 pub mod Clean
+pub mod Sizes
+pub mod Packing
 pub mod Invariant
 pub mod Keeping
 pub mod Restacking
@@ -15,6 +17,7 @@ pub mod Draws
 pub mod FrameNumbers
 pub mod Carried
 pub mod Stood
+pub mod PlaneSteps
 pub mod Stays
 -- The table of entries as a test
 pub mod Decide

@@ -2,6 +2,7 @@
 use Rattle.std.proofs.Common.{◌≡◌, List, true, sym, subst}
 use Rattle.dri_base.specs.Ranges.{InRange}
 use Rattle.dri_base.proofs.RangeLemmas.{well_formed}
+use Rattle.dri_base.proofs.RegionSizes.{region_size_within}
 use Rattle.dri_base.specs.declared.journal.Entry.{Entry}
 use Rattle.dri_base.specs.declared.journal.Event.{Event}
 use Rattle.dri_base.specs.declared.scene.Scene.{Scene}
@@ -44,7 +45,7 @@ module _ (s : Scene) (journal : List Entry) (good : InRange s) (run : HoldRun s 
 
   -- placed textures are intact
   pub intact : Intact s (after s journal)
-  intact = intact_at s (after s journal) (sound_after s journal (well_formed s good) run)
+  intact = intact_at s (after s journal) (region_size_within s.region_size good.card.sized).0 (sound_after s journal (well_formed s good) run)
 
   pub confined : Confined s journal
   confined = confined_run s journal (well_formed s good) run

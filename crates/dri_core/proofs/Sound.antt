@@ -1,12 +1,16 @@
 -- The whole invariant.
-use Rattle.std.proofs.Common.{List, [], ◌∷◌}
+use Rattle.std.proofs.Common.{◌≡◌, ◌≤◌, ◌+◌, ℕ, true, Some, refl, ◌∙◌, List, [], ◌∷◌}
 use Rattle.dri_base.specs.declared.journal.Entry.{Entry}
 use Rattle.dri_base.specs.declared.journal.Entry.TheVariants.{Light, Kernel, Stale, Emit, Place, Leave, Info, Change, Run, Gone}
 use Rattle.dri_base.specs.declared.scene.Scene.{Scene}
 use Rattle.dri_base.proofs.RangeLemmas.{IsWellFormed}
 use Rattle.dri_core.specs.Worlds.{World, opening}
 use Rattle.dri_core.specs.EntryTable.{LegalEntry, after_entry}
-use Rattle.dri_core.specs.Runs.{after_entries, LegalEntries, after, HoldRun, Intact}
+use Rattle.dri_core.specs.Privates.{blocks_needed, is_small, size_of}
+use Rattle.dri_core.specs.Runs.{after_entries, LegalEntries, after, HoldRun, Intact, IsLiveAt, IsLiveShared}
+use Rattle.dri_model.specs.Heaps.{Spot, in_run}
+use Rattle.dri_core.proofs.Packing.{first_region}
+use Rattle.dri_core.proofs.Sizes.{small_one}
 use Rattle.dri_core.proofs.Invariant.{Invariant, opened}
 use Rattle.dri_core.proofs.Kept.{keep}
 use Rattle.dri_core.proofs.Textures.{Textures, opened_textures, light, kernel, stale, emit, leave, info, change, gone}
@@ -42,12 +46,24 @@ sound_along s w (e ∷ es) good sound allowed = sound_along s (after_entry s w e
 pub sound_after : (s : Scene) (journal : List Entry) → IsWellFormed s → HoldRun s journal → Sound s (after s journal)
 sound_after s journal good run = sound_along s (opening s) journal good (sound_opened s good) run
 
-pub intact_at : (s : Scene) (w : World) → Sound s w → Intact s w
-intact_at s w sound = record {
+pub intact_at : (s : Scene) (w : World) → 256 ≤ s.region_size → Sound s w → Intact s w
+intact_at s w large sound = record {
   ages = sound.textures.ages;
   locals = sound.textures.locals;
-  used = λ c t run live. (sound.textures.held c t run live).used;
-  image = λ c t run live. (sound.textures.held c t run live).image;
-  apart = sound.textures.apart;
+  used = λ c t spot live. (sound.textures.held c t spot live).used;
+  image = λ c t spot live. (sound.textures.held c t spot live).image;
+  below = below;
+  apart = λ c t u k a b one two. (sound.textures.packed c).apart t u k a b one.0 two.0;
+  shared = λ c k level live. let mark = sound.textures.marks c k level live in (rw (mark.0, mark.1) refl, (sound.textures.packed c).level k level live.0 large);
+  only_small = λ c k level t spot live placed i. ((sound.textures.packed c).below t spot k level placed i live.0).0;
   alone = sound.textures.alone;
 }
+  where
+    below : (c t : ℕ) (spot : Spot) → IsLiveAt w.heap (w.client c) t spot → is_small s c t ≡ true → (level : ℕ) × IsLiveShared w.heap (w.client c) spot.run.first level × (spot.block + blocks_needed s c t ≤ level)
+    below c t spot live small = (home.0, (home.1, live.1 spot.run.first i), ((sound.textures.packed c).below t spot spot.run.first home.0 live.0 i home.1).1)
+      where
+        home : (v : ℕ) × ((w.client c).levels spot.run.first ≡ Some v)
+        home = (sound.textures.packed c).home t spot live.0 small
+
+        i : in_run spot.run spot.run.first ≡ true
+        i = first_region spot.run ((sound.textures.packed c).count t spot live.0 ∙ small_one s.region_size (size_of s c t) small)

@@ -8,7 +8,7 @@ use Rattle.dri_base.specs.declared.journal.Entry.TheVariants.{Change, Gone}
 use Rattle.dri_base.specs.declared.scene.Scene.{Scene}
 use Rattle.dri_base.specs.declared.scene.Window.{Window}
 use Rattle.dri_core.specs.EntryTable.{after_entry}
-use Rattle.dri_core.specs.Frames.{StampTells, keeps}
+use Rattle.dri_core.specs.Frames.{StampTells, keeps_stamp}
 use Rattle.dri_core.specs.Restacks.{next_stack, touched_by, stamps_after}
 use Rattle.dri_core.specs.Worlds.{World}
 use Rattle.dri_core.proofs.Invariant.{Invariant}
@@ -54,7 +54,7 @@ stamp_kept s w new n le = by_touch (touched_by s w new n) refl
 stack_stays : (s : Scene) (w : World) (n : ℕ) → (w.stamps n == w.stamps n) ≡ not (touched_by s w w.stack n)
 stack_stays s w n = rw (untouched s.width s.height w.stack n) (grind (arith, nat_tests))
 
-kept_by : (s : Scene) (w : World) (e : Entry) (n : ℕ) → w.stamps n ≤ w.counter → keeps s w e n ≡ not (touched_by s w (after_entry s w e).stack n)
+kept_by : (s : Scene) (w : World) (e : Entry) (n : ℕ) → w.stamps n ≤ w.counter → keeps_stamp s w e n ≡ not (touched_by s w (after_entry s w e).stack n)
 kept_by s w (Change i) n le = stamp_kept s w (next_stack s w) n le
 kept_by s w (Gone c) n le = stamp_kept s w (without_owner c w.stack) n le
 kept_by s w _ n le = stack_stays s w n
@@ -66,8 +66,8 @@ stamp_tells s w e n inv le = record {
   same_origin = λ keeps. origin_kept s.width s.height w.stack (after_entry s w e).stack n (not_touched keeps);
 }
   where
-    kept : keeps s w e n ≡ not (touched_by s w (after_entry s w e).stack n)
+    kept : keeps_stamp s w e n ≡ not (touched_by s w (after_entry s w e).stack n)
     kept = kept_by s w e n (inv.counted n (omega arith))
 
-    not_touched : keeps s w e n ≡ true → touched_by s w (after_entry s w e).stack n ≡ false
+    not_touched : keeps_stamp s w e n ≡ true → touched_by s w (after_entry s w e).stack n ≡ false
     not_touched keeps = not-true _ (sym kept ∙ keeps)

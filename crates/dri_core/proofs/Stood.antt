@@ -1,6 +1,6 @@
 -- Frames that stood.
-use Rattle.std.proofs.Common.{◌≡◌, ◌≢◌, ◌+◌, ◌-◌, ℕ, suc, List, [], ◌∷◌, ◌++◌, Bool, true, false, Option, Some, arith, refl, sym, ap, ◌∙◌, inl, inr, subst}
-use Rattle.std.specs.Prelude.{◌==◌, ◌⊎◌, slice_get, pred, ℤ}
+use Rattle.std.proofs.Common.{◌≡◌, ◌≢◌, ◌+◌, ◌-◌, ℕ, suc, List, [], ◌∷◌, ◌++◌, Bool, true, false, Option, Some, None, arith, refl, sym, ap, ◌∙◌, inl, inr, subst}
+use Rattle.std.specs.Prelude.{◌==◌, ◌||◌, ◌⊎◌, slice_get, pred, ℤ}
 use Rattle.std.proofs.lemmas.Bool.Decides.{nat_tests}
 use Rattle.std.proofs.lemmas.Bool.{true≢false, cases_eq, false_from_ne_true}
 use Rattle.dri_base.specs.declared.journal.Entry.{Entry}
@@ -11,21 +11,21 @@ use Rattle.dri_base.specs.declared.journal.Entry.TheVariants.{Change, Run, Gone}
 use Rattle.dri_base.specs.declared.scene.Scene.{Scene}
 use Rattle.dri_base.proofs.RangeLemmas.{IsWellFormed}
 use Rattle.dri_base.specs.Scenes.{window_of, command_at, commands_of, script_of}
-use Rattle.dri_model.specs.Stacks.{without_owner}
+use Rattle.dri_model.specs.Stacks.{is_moved_whole, without_owner}
 use Rattle.dri_base.specs.declared.colour.Pixel.{Pixel}
 use Rattle.dri_base.specs.States.{state_at}
 use Rattle.dri_base.specs.Fragments.{Rules, rules_of}
 use Rattle.dri_base.specs.Texels.{Image}
 use Rattle.dri_core.specs.Solo.{drawn_by, blank, solo, image_at}
-use Rattle.dri_core.proofs.Carried.{CameFrom, apart_at, came_from, restack_keeps}
+use Rattle.dri_core.proofs.Carried.{CameFrom, IsKept, apart_at, came_from, restack_keeps}
 use Rattle.dri_core.proofs.Draws.{ran_back}
 use Rattle.dri_core.specs.Worlds.{World, opening, clips_in}
 use Rattle.dri_core.specs.EntryTable.{LegalEntry, after_entry}
 use Rattle.dri_core.specs.Effects.{front_after}
-use Rattle.dri_core.specs.Restacks.{next_stack, touched_by, stamps_after}
+use Rattle.dri_core.specs.Restacks.{next_moved, next_stack, stamps_after}
 use Rattle.dri_core.specs.Privates.{can_run, can_draw}
 use Rattle.dri_core.specs.Runs.{after_entries, LegalEntries, after, HoldRun}
-use Rattle.dri_core.specs.Frames.{Stands, keeps, IsNoSwap, NoSwap, across, down, SoloLeft}
+use Rattle.dri_core.specs.Frames.{Stands, keeps, moves_whole, IsNoSwap, NoSwap, across, down, SoloLeft}
 use Rattle.dri_core.specs.Solo.{is_clear, is_swap, IsFrame}
 use Rattle.dri_core.proofs.FrameNumbers.{is_frame}
 use Rattle.dri_core.proofs.Sound.{Sound, sound_along, sound_kept, sound_after}
@@ -77,17 +77,26 @@ drawn_first s w c first good inv legal is = record {
   back = λ x y inside. ran_back s w c first x y good inv legal inside ∙ drawn_clear (rules_of (state_at (commands_of s c) first)) (image_at (script_of s c) first) (command_at s c first) (across s w c x) (down s w c y) (w.back x y) is;
 }
 
--- where a change or a death keeps the stamp, the window is untouched
-stamp_untouched : (s : Scene) (w : World) (new : List Window) (c : ℕ) → IsWellFormed s → Sound s w → (stamps_after s w new (window_of s c) == w.stamps (window_of s c)) ≡ true → touched_by s w new (window_of s c) ≡ false
-stamp_untouched s w new c good inv keeps = restack_keeps s w new (window_of s c) (inv.main.counted (window_of s c) (good.few c)) (grind (arith, nat_tests))
+-- a change that keeps what stands on the window leaves it or moves it whole, and so does a death
+kept_by : (s : Scene) (w : World) (moved : Option ℕ) (new : List Window) (c : ℕ) (whole : Bool) → IsWellFormed s → Sound s w →
+    ((stamps_after s w new (window_of s c) == w.stamps (window_of s c)) || whole) ≡ true → (whole ≡ true → is_moved_whole s.width s.height w.stack new moved (window_of s c) ≡ true) →
+    IsKept s w moved new (window_of s c)
+kept_by s w moved new c true good inv keeps moves = inr (moves refl)
+kept_by s w moved new c false good inv keeps moves = inl (restack_keeps s w new (window_of s c) (inv.main.counted (window_of s c) (good.few c)) (grind (arith, nat_tests)))
+
+change_keeps : (s : Scene) (w : World) (i c : ℕ) → IsWellFormed s → Sound s w → keeps s w (Change i) (window_of s c) ≡ true → IsKept s w (next_moved s w) (next_stack s w) (window_of s c)
+change_keeps s w i c good inv keeps = kept_by s w (next_moved s w) (next_stack s w) c (moves_whole s w (Change i) (window_of s c)) good inv keeps (λ whole. whole)
+
+gone_keeps : (s : Scene) (w : World) (d c : ℕ) → IsWellFormed s → Sound s w → keeps s w (Gone d) (window_of s c) ≡ true → IsKept s w None (without_owner d w.stack) (window_of s c)
+gone_keeps s w d c good inv keeps = kept_by s w None (without_owner d w.stack) c false good inv keeps (λ whole. absurd (true≢false (sym whole)))
 
 -- one entry on
 drawn_step : (s : Scene) (w : World) (e : Entry) (c first n : ℕ) → IsWellFormed s → Sound s w → LegalEntry s w e → is_clear (slice_get (commands_of s c) (pred first)) ≡ true →
     keeps s w e (window_of s c) ≡ true → Drawn s c first n w → (m : ℕ) × Drawn s c first m (after_entry s w e)
 drawn_step s w (Change i) c first n good inv legal is keeps drawn =
-    (n, drawn_came s w (after_entry s w (Change i)) c first n refl (λ x y. came_from s w (next_stack s w) (window_of s c) x y (stamp_untouched s w (next_stack s w) c good inv keeps)) drawn)
+    (n, drawn_came s w (after_entry s w (Change i)) c first n refl (λ x y inside. came_from s w (next_stack s w) (window_of s c) x y inside (next_moved s w) (change_keeps s w i c good inv keeps)) drawn)
 drawn_step s w (Gone d) c first n good inv legal is keeps drawn =
-    (n, drawn_came s w (after_entry s w (Gone d)) c first n place (λ x y. came_from s w (without_owner d w.stack) (window_of s c) x y (stamp_untouched s w (without_owner d w.stack) c good inv keeps)) drawn)
+    (n, drawn_came s w (after_entry s w (Gone d)) c first n place (λ x y inside. came_from s w (without_owner d w.stack) (window_of s c) x y inside None (gone_keeps s w d c good inv keeps)) drawn)
   where
     place : ((after_entry s w (Gone d)).client c).place ≡ (w.client c).place
     place = grind (arith, nat_tests)
@@ -147,9 +156,9 @@ shows_came s w v c first last came shows x y inside = let p = came x y inside in
 shows_step : (s : Scene) (w : World) (e : Entry) (c first last : ℕ) → IsWellFormed s → Sound s w → LegalEntry s w e → is_clear (slice_get (commands_of s c) (pred first)) ≡ true →
     keeps s w e (window_of s c) ≡ true → IsNoSwap s c e → ShowsBetween s c first last w → ShowsBetween s c first last (after_entry s w e)
 shows_step s w (Change i) c first last good inv legal is keeps noswap shows =
-    shows_came s w (after_entry s w (Change i)) c first last (λ x y. came_from s w (next_stack s w) (window_of s c) x y (stamp_untouched s w (next_stack s w) c good inv keeps)) shows
+    shows_came s w (after_entry s w (Change i)) c first last (λ x y inside. came_from s w (next_stack s w) (window_of s c) x y inside (next_moved s w) (change_keeps s w i c good inv keeps)) shows
 shows_step s w (Gone d) c first last good inv legal is keeps noswap shows =
-    shows_came s w (after_entry s w (Gone d)) c first last (λ x y. came_from s w (without_owner d w.stack) (window_of s c) x y (stamp_untouched s w (without_owner d w.stack) c good inv keeps)) shows
+    shows_came s w (after_entry s w (Gone d)) c first last (λ x y inside. came_from s w (without_owner d w.stack) (window_of s c) x y inside None (gone_keeps s w d c good inv keeps)) shows
 shows_step s w (Run d i) c first last good inv legal is keeps noswap shows = λ x y inside. front_left w (w.client d).copy (command_at s d i) x y (by_client x y inside (cases_eq d c)) ∙ shows x y inside
   where
     by_client : (x y : ℕ) → clips_in s w c x y ≡ true → (d ≡ c) ⊎ (d ≡ c → ⊥) → (is_swap (command_at s d i) ≡ false) ⊎ ((w.client d).copy x y ≡ false)

@@ -1,5 +1,5 @@
 -- What a turn brings is legal.
-use Rattle.std.proofs.Common.{◌≡◌, ◌+◌, ℕ, suc, List, [], ◌∷◌, Bool, true, false, Option, Some, None, arith, refl, sym, ◌∙◌, inl, inr, subst}
+use Rattle.std.proofs.Common.{◌≡◌, ◌<◌, ◌≤◌, ◌+◌, ℕ, suc, List, [], ◌∷◌, Bool, true, false, Option, Some, None, arith, refl, sym, ◌∙◌, inl, inr, subst}
 use Rattle.std.specs.Prelude.{◌==◌, not, ◌&&◌, ◌⊎◌, if◌then◌else◌}
 use Rattle.std.proofs.lemmas.Bool.{true≢false, cond-false}
 use Rattle.std.proofs.lemmas.Bool.Decides.{nat_tests}
@@ -18,13 +18,14 @@ use Rattle.dri_model.specs.Heaps.{Heap, lowest_place, classes_for, is_place_for}
 use Rattle.dri_model.proofs.Rooms.{place_found}
 use Rattle.dri_core.proofs.Sound.{Sound, sound_opened}
 use Rattle.dri_core.proofs.Cores.{Tied, legal_of, tied_step, tied_start, invariant_on}
-use Rattle.dri_core.specs.Privates.{Private, is_triangle, is_ready, textured_with}
+use Rattle.dri_core.specs.EntryTable.{is_start_for}
+use Rattle.dri_core.specs.Privates.{Private, is_triangle, is_ready, room_in, textured_with}
 use Rattle.dri_core.specs.Phases.{is_holding, is_done}
 use Rattle.dri_core.specs.Cores.{Core, opening_core, entry_of, IsNext, IsFirst, is_next, is_queued, can_take, Wants}
 use Rattle.dri_core.specs.CoreRuns.{after_events, LegalEvents, IsRun}
 use Rattle.dri_core.specs.EventTable.{LegalEvent, after_event}
 use Rattle.dri_core.specs.Phases.{wants_in}
-use Rattle.dri_core.specs.Turns.{turn_of, phase_turn, acting_turn, triangle_turn, emit_turn, or_waiting, waiting}
+use Rattle.dri_core.specs.Turns.{start_for, turn_of, phase_turn, acting_turn, triangle_turn, emit_turn, or_waiting, waiting}
 use Rattle.dri_core.specs.Cores.{is_first}
 use Rattle.dri_core.proofs.Queues.{Queued, queued_step}
 
@@ -64,6 +65,11 @@ or_is_legal s k a go e can wants stays h = by_word k.word.held refl (is_next a k
     by_word false eh false en = wait_is_legal s k a e wants (stays en eh) (skipped (rw (eh, en) refl))
     by_word true eh n en = wait_is_legal s k a e wants (rw eh refl) (skipped (rw eh refl))
 
+-- where there is room, or by the heap's rule, a place is found
+pub start_found : (room : Option Heaps.Spot) (n : ℕ) (h : Heap) (count : ℕ) → 0 < n → count ≤ n → is_start_for room n h count (start_for room n h count) ≡ true
+start_found None n h count l le = place_found n h count l le
+start_found (Some room) n h count l le = grind (arith, nat_tests)
+
 pub acting_is_legal : (s : Scene) (k : Core) (c : ℕ) (e : Event) → IsWellFormed s → (k.world.client c).phase ≡ Phase_is.In → (command : Option Command) → command_at s c (k.world.client c).place ≡ command → acting_turn s k.world c command ≡ Some e → LegalEvent s k e
 acting_is_legal s k c e good phase (Some Command_is.Die) is h = subst (LegalEvent s k) (some_is h) (inl (rw phase refl, inr (phase, is)))
 acting_is_legal s k c e good phase (Some (Command_is.Triangle t)) is h = by_texture (textured_with (k.world.client c).state) refl h
@@ -78,8 +84,8 @@ acting_is_legal s k c e good phase (Some (Command_is.Triangle t)) is h = by_text
     by_dirt true d ready g = subst (LegalEvent s k) (some_is (rw d at g)) (phase, refl, rw is (rw (d, ready) refl))
     by_dirt false d ready g = subst (LegalEvent s k) (some_is (rw d at g)) (at, ready, refl, d)
 
-    by_place : (u : ℕ) → textured_with p.state ≡ Some u → (o : Option Heaps.Run) → p.placed u ≡ o → triangle_turn s k.world c (Some u) ≡ Some e → LegalEvent s k e
-    by_place u st None pl g = subst (LegalEvent s k) (some_is (rw pl at g)) (at, st, pl, refl, place_found s.regions k.world.heap (regions_needed s c u) good.roomy (good.heap c u))
+    by_place : (u : ℕ) → textured_with p.state ≡ Some u → (o : Option Heaps.Spot) → p.placed u ≡ o → triangle_turn s k.world c (Some u) ≡ Some e → LegalEvent s k e
+    by_place u st None pl g = subst (LegalEvent s k) (some_is (rw pl at g)) (at, st, pl, refl, start_found (room_in s c p u) s.regions k.world.heap (regions_needed s c u) good.roomy (good.heap c u))
     by_place u st (Some r) pl g = by_dirt (is_empty p.dirty) refl (rw (st, pl) refl) (rw pl at g)
 
     by_texture : (o : Option ℕ) → textured_with p.state ≡ o → triangle_turn s k.world c o ≡ Some e → LegalEvent s k e

@@ -49,8 +49,8 @@ WordIsClean s k =
 abbrev pub WordHasImages : Scene → Core → Type 0
 WordHasImages s k =
     (c : ℕ) → k.word.held ≡ false → k.word.context ≡ c + 1 → (k.world.client c).phase ≡ Out →
-    (t : ℕ) (run : Heaps.Run) → (k.world.client c).placed t ≡ Some run →
-    HasBytes k.world.memory (base_of s.region_size run) (bytes_of (texture_in (textures_of s c) t))
+    (t : ℕ) (spot : Heaps.Spot) → (k.world.client c).placed t ≡ Some spot →
+    HasBytes k.world.memory (base_of s.region_size spot) (bytes_of (texture_in (textures_of s c) t))
 
 -- no command changes a pixel outside its client's clips of that moment
 abbrev pub ConfinedRun : Scene → List Event → Type 0
@@ -77,7 +77,7 @@ abbrev pub NoSwapIn : Scene → ℕ → List Event → Type 0
 NoSwapIn s c [] = Unit {0}
 NoSwapIn s c (e ∷ es) = ((i : ℕ) → is_swap (command_at s c i) ≡ true → e ≢ Run c i) × NoSwapIn s c es
 
--- each frame that stood is shown after its swap, until the client swaps again or its window gets a new stamp
+-- each frame that stood is shown after its swap, until the client swaps again or its window gets a new stamp otherwise than by a whole move
 abbrev pub SoloLeftRun : Scene → List Event → Type 0
 SoloLeftRun s events =
     (c k first last : ℕ) (past middle later rest : List Event) → frame (commands_of s c) k ≡ Some (first, last) →

@@ -4,13 +4,12 @@ use Rattle.dri_base.specs.declared.command.Command.{Command}
 use Rattle.dri_base.specs.declared.command.Command.TheVariants.{Die}
 use Rattle.dri_base.specs.declared.journal.Entry.{Entry}
 use Rattle.dri_base.specs.declared.scene.Scene.{Scene}
-use Rattle.dri_core.specs.EntryTable.{after_entry}
+use Rattle.dri_core.specs.EntryTable.{after_entry, is_start_for}
 use Rattle.dri_core.specs.Phases.{Ask, Asking, In, Old, Out, Over, is_done, is_holding, same_phase}
-use Rattle.dri_core.specs.Privates.{can_draw, can_run, is_ready, is_triangle, textured_with}
+use Rattle.dri_core.specs.Privates.{can_draw, can_run, is_ready, is_triangle, room_in, textured_with}
 use Rattle.dri_base.specs.Scenes.{command_at, is_named, regions_needed}
 use Rattle.dri_core.specs.Worlds.{World, opening}
 use Rattle.dri_model.specs.Groups.{bits, is_empty, same_number}
-use Rattle.dri_model.specs.Heaps.{is_place_for}
 use Rattle.dri_base.specs.declared.journal.Entry.TheVariants as Entry_is
 
 -- the command is die
@@ -31,7 +30,7 @@ is_legal_entry s w (Entry_is.Emit c groups) =
     same_phase (w.client c).phase In && (is_triangle (command_at s c (w.client c).place) && (is_ready (w.client c) && ((groups == bits (w.client c).dirty) && not (is_empty (w.client c).dirty))))
 is_legal_entry s w (Entry_is.Place c t first count) =
     same_phase (w.client c).phase In && (is_triangle (command_at s c (w.client c).place) && (same_number (textured_with (w.client c).state) (Some t) &&
-    (is_none ((w.client c).placed t) && ((count == regions_needed s c t) && is_place_for s.regions w.heap count first))))
+    (is_none ((w.client c).placed t) && ((count == regions_needed s c t) && is_start_for (room_in s c (w.client c) t) s.regions w.heap count first))))
 is_legal_entry s w (Entry_is.Run c i) = same_phase (w.client c).phase In && ((i == (w.client c).place) && can_run (can_draw (w.client c)) (command_at s c i))
 is_legal_entry s w (Entry_is.Gone c) =
     (same_phase (w.client c).phase In && is_die (command_at s c (w.client c).place)) ||

@@ -6,13 +6,14 @@ use Rattle.dri_base.specs.declared.command.Command.{Command}
 use Rattle.dri_base.specs.declared.command.Command.TheVariants.{Swap, Triangle}
 use Rattle.dri_base.specs.declared.scene.Scene.{Scene}
 use Rattle.dri_core.specs.Phases.{In, Old, Out, Phase, left_from, phase_after}
-use Rattle.dri_core.specs.Privates.{Private, is_bound_lost, placed_after, state_by, used_run}
+use Rattle.dri_core.specs.Privates.{Private, blocks_needed, is_bound_lost, is_small, placed_after, room_in, state_by, used_spot}
 use Rattle.dri_base.specs.Scenes.{command_at, commands_of, window_of}
 use Rattle.dri_core.specs.Solo.{drawn_by}
 use Rattle.dri_core.specs.Worlds.{World, clips_in}
 use Rattle.dri_model.specs.Stacks.{origin}
 use Rattle.dri_model.specs.Groups.{all_where, dirtied, with_bound}
-use Rattle.dri_model.specs.Heaps.{Heap, Run, allocated, freed_for, is_newer, lose, touched}
+use Rattle.dri_model.specs.Heaps.{Heap, Run, Spot, allocated, freed_for, is_newer, lose, marked, touched}
+use Rattle.dri_model.specs.Shares.{levels_after, lose_levels}
 use Rattle.dri_model.specs.Words.{card_image, rules_in}
 
 -- command i is the last one, or behind it
@@ -38,31 +39,32 @@ abbrev pub back_after : World → Private → Option Command → ℕ → ℕ →
 back_after w p command x y =
     only_where (p.copy x y) (drawn_by (rules_in w.registers) (card_image w.memory w.registers.bound) command (pos x -ℤ p.origin.0) (pos y -ℤ p.origin.1)) (w.back x y)
 
--- the regions after a run is touched, where there is one
-abbrev pub touched_if : Option Run → Heap → Heap
+-- the regions after the run of a spot is touched, where there is one
+abbrev pub touched_if : Option Spot → Heap → Heap
 touched_if None h = h
-touched_if (Some run) h = touched run h
+touched_if (Some spot) h = touched spot.run h
 
 -- the regions after a command: a triangle touches the run of the texture that it needs
-abbrev pub heap_after : Heap → Option Run → Option Command → Heap
-heap_after h run (Some (Triangle t)) = touched_if run h
-heap_after h run _ = h
+abbrev pub heap_after : Heap → Option Spot → Option Command → Heap
+heap_after h spot (Some (Triangle t)) = touched_if spot h
+heap_after h spot _ = h
 
 -- the client's local age after a command: that of the touch, where there is one
-abbrev pub local_after : ℕ → Heap → Option Run → Option Command → ℕ
-local_after local h run (Some (Triangle t)) = if is_none run then local else (touched_if run h).global
-local_after local h run _ = local
+abbrev pub local_after : ℕ → Heap → Option Spot → Option Command → ℕ
+local_after local h spot (Some (Triangle t)) = if is_none spot then local else (touched_if spot h).global
+local_after local h spot _ = local
 
 -- so many neighbouring regions from a first one on
 abbrev pub run_at : ℕ → ℕ → Run
 run_at first count = record { first = first; count = count }
 
--- the client's part after the kernel let it in: all groups are dirty where another owned the card, and textures with a region that is newer than its local age are lost
+-- the client's part after the kernel let it in: all groups are dirty where another owned the card, and textures with a region that is newer than its local age, and shared regions that are, are lost
 abbrev pub taken_in : Scene → World → ℕ → Private
 taken_in s w c = record (w.client c) {
   phase = if (w.client c).stamp == w.stamps (window_of s c) then In else Old;
   dirty = with_bound (is_bound_lost (w.client c) (is_newer w.heap (w.client c).local)) (all_where (not (w.owner == c + 1)) (w.client c).dirty);
   placed = λ t. lose (is_newer w.heap (w.client c).local) ((w.client c).placed t);
+  levels = lose_levels (is_newer w.heap (w.client c).local) (w.client c).levels;
   local = w.heap.global;
 }
 
@@ -73,16 +75,41 @@ run_by s w c i = record (w.client c) {
   phase = phase_after (command_at s c i) (is_last s c i);
   state = state_by (command_at s c i) (w.client c).state;
   dirty = dirtied (w.client c).state (state_by (command_at s c i) (w.client c).state) (w.client c).dirty;
-  local = local_after (w.client c).local w.heap (used_run (w.client c)) (command_at s c i);
+  local = local_after (w.client c).local w.heap (used_spot (w.client c)) (command_at s c i);
+}
+
+-- where a texture is put: in the room that there is for it, else at the beginning of the run that is allocated for it
+abbrev pub spot_for : Option Spot → Run → Spot
+spot_for None run = record { run = run; block = 0 }
+spot_for (Some room) run = room
+
+-- the regions that go for it: where there is room, none
+abbrev pub freed_by : Option Spot → ℕ → Heap → ℕ → ℕ → Bool
+freed_by None n h count k = freed_for n h count k
+freed_by (Some room) n h count k = false
+
+-- the heap after it is put there: where there is room, as it was; else the run is allocated, and the region of a small texture is shared
+abbrev pub heap_placed : Option Spot → Bool → ℕ → Heap → Run → Heap
+heap_placed None small n h run = marked small run.first (allocated n h run)
+heap_placed (Some room) small n h run = h
+
+-- its client's local age then
+abbrev pub local_placed : Option Spot → ℕ → ℕ → Heap → Run → ℕ
+local_placed None local n h run = (allocated n h run).global
+local_placed (Some room) local n h run = local
+
+-- the client's part after it placed texture t in a room, where there is one, or in the run
+abbrev pub placed_with : Option Spot → Scene → World → ℕ → ℕ → Run → Private
+placed_with room s w c t run = record (w.client c) {
+  placed = placed_after (w.client c).placed (freed_by room s.regions w.heap run.count) t (spot_for room run);
+  levels = levels_after (w.client c).levels (freed_by room s.regions w.heap run.count) (is_small s c t) (spot_for room run) (blocks_needed s c t);
+  local = local_placed room (w.client c).local s.regions w.heap run;
+  dirty = with_bound true (w.client c).dirty;
 }
 
 -- the client's part after it placed texture t
 abbrev pub placed_by : Scene → World → ℕ → ℕ → ℕ → ℕ → Private
-placed_by s w c t first count = record (w.client c) {
-  placed = placed_after (w.client c).placed (freed_for s.regions w.heap count) t (run_at first count);
-  local = (allocated s.regions w.heap (run_at first count)).global;
-  dirty = with_bound true (w.client c).dirty;
-}
+placed_by s w c t first count = placed_with (room_in s c (w.client c) t) s w c t (run_at first count)
 
 -- the client's part after it was told its window's clips, origin and stamp
 abbrev pub told : Scene → World → ℕ → Private

@@ -11,6 +11,7 @@ pub mod EntryTable
 -- Hold-runs, their frames, and whether a journal is one
 pub mod Runs
 pub mod Frames
+pub mod PlaneSteps
 pub mod Decide
 pub mod FirstBad
 -- The core and its events

@@ -1,7 +1,7 @@
 -- What one client keeps: its private part.
-use Rattle.std.specs.Prelude.{Bool, List, None, Option, Some, false, if◌then◌else◌, is_some, pos, true, ℕ, ℤ, ◌&&◌, ◌==◌}
+use Rattle.std.specs.Prelude.{Bool, List, None, Option, Some, false, if◌then◌else◌, is_some, length, pos, true, ℕ, ℤ, ◌&&◌, ◌==◌}
 use Rattle.dri_base.specs.States.{default_state, state_after}
-use Rattle.dri_base.specs.Texels.{texture_bound}
+use Rattle.dri_base.specs.Texels.{texture_bound, texture_in}
 use Rattle.dri_base.specs.declared.command.Command.{Command}
 use Rattle.dri_base.specs.declared.command.Command.TheVariants.{Die, Triangle}
 use Rattle.dri_base.specs.declared.scene.Scene.{Scene}
@@ -11,9 +11,10 @@ use Rattle.dri_base.specs.declared.state.TexMode.{TexMode}
 use Rattle.dri_base.specs.declared.texture.BoundTexture.{BoundTexture}
 use Rattle.dri_base.specs.declared.texture.Texture.{Texture}
 use Rattle.dri_core.specs.Phases.{Phase, first_phase}
-use Rattle.dri_base.specs.Scenes.{textures_of}
+use Rattle.dri_base.specs.Scenes.{bytes_of, textures_of}
 use Rattle.dri_model.specs.Groups.{Groups, all_groups, is_empty}
-use Rattle.dri_model.specs.Heaps.{Run, any_in, base_of, lose}
+use Rattle.dri_model.specs.Heaps.{Run, Spot, any_in, base_of, lose}
+use Rattle.dri_model.specs.Shares.{blocks_for, is_small_for, room_for}
 use Rattle.dri_model.specs.Words.{registers_for}
 use Rattle.dri_base.specs.declared.state.TexMode.TheVariants as Mode_is
 
@@ -32,8 +33,10 @@ pub record Private : Type 0 where
   pub state : State
   -- the groups that the card may not have as the client wants them
   pub dirty : Groups
-  -- the runs of its placed textures, by number
-  pub placed : ℕ → Option Run
+  -- where its placed textures stand, by number
+  pub placed : ℕ → Option Spot
+  -- the levels of its shared regions, by the region's number
+  pub levels : ℕ → Option ℕ
   -- the age up to which it knows the regions
   pub local : ℕ
 
@@ -48,6 +51,7 @@ opening_part cs = record {
   state = default_state;
   dirty = all_groups;
   placed = λ t. None;
+  levels = λ k. None;
   local = 0;
 }
 
@@ -61,16 +65,25 @@ abbrev pub textured_with : State → Option ℕ
 textured_with s = texture_used s.tex_mode s.bound
 
 -- where a texture is placed
-abbrev pub run_of : (ℕ → Option Run) → Option ℕ → Option Run
-run_of placed None = None
-run_of placed (Some t) = placed t
+abbrev pub spot_of : (ℕ → Option Spot) → Option ℕ → Option Spot
+spot_of placed None = None
+spot_of placed (Some t) = placed t
+
+-- where the texture stands that a triangle needs
+abbrev pub used_spot : Private → Option Spot
+used_spot p = spot_of p.placed (textured_with p.state)
+
+-- the run of a spot, where there is one
+abbrev pub run_in : Option Spot → Option Run
+run_in None = None
+run_in (Some spot) = Some spot.run
 
 -- the run of the texture that a triangle needs
 abbrev pub used_run : Private → Option Run
-used_run p = run_of p.placed (textured_with p.state)
+used_run p = run_in (used_spot p)
 
 -- no texture is needed, or it is placed
-abbrev pub is_ready_for : (ℕ → Option Run) → Option ℕ → Bool
+abbrev pub is_ready_for : (ℕ → Option Spot) → Option ℕ → Bool
 is_ready_for placed None = true
 is_ready_for placed (Some t) = is_some (placed t)
 
@@ -79,14 +92,14 @@ abbrev pub is_ready : Private → Bool
 is_ready p = is_ready_for p.placed (textured_with p.state)
 
 -- a placed texture by its shape and its base
-abbrev pub bound_at : ℕ → Option Texture → Option Run → Option BoundTexture
-bound_at size None run = None
+abbrev pub bound_at : ℕ → Option Texture → Option Spot → Option BoundTexture
+bound_at size None spot = None
 bound_at size (Some t) None = None
-bound_at size (Some t) (Some run) = Some (record { shape = t.shape; base = base_of size run })
+bound_at size (Some t) (Some spot) = Some (record { shape = t.shape; base = base_of size spot })
 
 -- the bound texture as the card is to know it: none where it isn't placed
 abbrev pub bound_texture : Scene → ℕ → Private → Option BoundTexture
-bound_texture s c p = bound_at s.region_size (texture_bound (textures_of s c) p.state.bound) (run_of p.placed p.state.bound)
+bound_texture s c p = bound_at s.region_size (texture_bound (textures_of s c) p.state.bound) (spot_of p.placed p.state.bound)
 
 -- the registers that client c would emit now
 abbrev pub own_registers : Scene → ℕ → Private → Registers
@@ -114,14 +127,30 @@ state_by None old = old
 state_by (Some command) old = state_after command old
 
 -- a placed texture with a region that has the property is lost
-abbrev pub loses : (ℕ → Bool) → Option Run → Bool
+abbrev pub loses : (ℕ → Bool) → Option Spot → Bool
 loses f None = false
-loses f (Some run) = any_in run f
+loses f (Some spot) = any_in spot.run f
 
 -- the client's bound texture is lost, where regions with the property go
 abbrev pub is_bound_lost : Private → (ℕ → Bool) → Bool
-is_bound_lost p f = loses f (run_of p.placed p.state.bound)
+is_bound_lost p f = loses f (spot_of p.placed p.state.bound)
 
--- the placed textures after texture t is put in the run, where the textures of freed regions are lost
-abbrev pub placed_after : (ℕ → Option Run) → (ℕ → Bool) → ℕ → Run → ℕ → Option Run
-placed_after placed freed t run u = if u == t then Some run else lose freed (placed u)
+-- the placed textures after texture t is put in the spot, where the textures of freed regions are lost
+abbrev pub placed_after : (ℕ → Option Spot) → (ℕ → Bool) → ℕ → Spot → ℕ → Option Spot
+placed_after placed freed t spot u = if u == t then Some spot else lose freed (placed u)
+
+-- the number of bytes of texture t of client c
+abbrev pub size_of : Scene → ℕ → ℕ → ℕ
+size_of s c t = length (bytes_of (texture_in (textures_of s c) t))
+
+-- texture t of client c is small
+abbrev pub is_small : Scene → ℕ → ℕ → Bool
+is_small s c t = is_small_for s.region_size (size_of s c t)
+
+-- the blocks that texture t of client c takes, where it is small
+abbrev pub blocks_needed : Scene → ℕ → ℕ → ℕ
+blocks_needed s c t = blocks_for (size_of s c t)
+
+-- where there is room for texture t in client c's shared regions: only for a small one
+abbrev pub room_in : Scene → ℕ → Private → ℕ → Option Spot
+room_in s c p t = if is_small s c t then room_for s.region_size p.levels (blocks_needed s c t) else None

@@ -1,5 +1,5 @@
 -- Hold-runs, and what is said of them.
-use Rattle.std.specs.Prelude.{drop, Bool, List, None, Some, [], false, get_or, length, true, ℕ, ◌++◌, ◌+◌, ◌*◌, ◌<◌, ◌∷◌, ◌≡◌, ◌≤◌, ◌⊎◌}
+use Rattle.std.specs.Prelude.{drop, Bool, List, None, Some, [], false, get_or, length, true, ℕ, ◌++◌, ◌+◌, ◌*◌, ◌<◌, ◌∷◌, ◌≡◌, ◌≢◌, ◌≤◌, ◌⊎◌, ◌/◌}
 use Rattle.dri_base.specs.Limits.{most_changes, most_commands}
 use Rattle.dri_base.specs.Texels.{texture_in}
 use Rattle.dri_base.specs.declared.journal.Entry.{Entry}
@@ -8,11 +8,11 @@ use Rattle.dri_base.specs.declared.scene.Scene.{Scene}
 use Rattle.dri_base.specs.declared.state.Registers.{Registers}
 use Rattle.dri_core.specs.EntryTable.{LegalEntry, after_entry}
 use Rattle.dri_core.specs.Phases.{Asking, In, Out, Over, is_done}
-use Rattle.dri_core.specs.Privates.{Private, own_registers}
+use Rattle.dri_core.specs.Privates.{Private, blocks_needed, is_small, own_registers}
 use Rattle.dri_base.specs.Scenes.{bytes_of, textures_of, window_of}
 use Rattle.dri_core.specs.Worlds.{World, clips_in, opening}
 use Rattle.dri_model.specs.Groups.{Groups}
-use Rattle.dri_model.specs.Heaps.{Heap, base_of, in_run}
+use Rattle.dri_model.specs.Heaps.{Heap, Spot, base_of, in_run, use_of}
 use Rattle.dri_model.specs.Stacks.{origin}
 use Rattle.dri_base.specs.declared.journal.Entry.TheVariants as Entry_is
 use Rattle.dri_model.specs.Heaps as Heaps
@@ -85,22 +85,35 @@ IsLive h local run = (k : ℕ) → in_run run k ≡ true → h.age k ≤ local
 abbrev pub HasBytes : (ℕ → ℕ) → ℕ → List ℕ → Type 0
 HasBytes memory base bytes = (n : ℕ) → n < length bytes → memory (base + n) ≡ get_or bytes n 0
 
--- texture t is live: it is placed in the run, none of whose regions is newer than its client's local age
-abbrev pub IsLiveAt : Heap → Private → ℕ → Heaps.Run → Type 0
-IsLiveAt h p t run = (p.placed t ≡ Some run) × IsLive h p.local run
+-- texture t is live: it is placed in the spot, none of whose regions is newer than its client's local age
+abbrev pub IsLiveAt : Heap → Private → ℕ → Spot → Type 0
+IsLiveAt h p t spot = (p.placed t ≡ Some spot) × IsLive h p.local spot.run
+
+-- shared region k is live: it has this level, and isn't newer than its client's local age
+abbrev pub IsLiveShared : Heap → Private → ℕ → ℕ → Type 0
+IsLiveShared h p k level = (p.levels k ≡ Some level) × (h.age k ≤ p.local)
 
 -- region k lies in a live texture
-abbrev pub HasLive : Heap → Private → ℕ → Type 0
-HasLive h p k = (t : ℕ) × (run : Heaps.Run) × IsLiveAt h p t run × (in_run run k ≡ true)
+abbrev pub IsTextured : Heap → Private → ℕ → Type 0
+IsTextured h p k = (t : ℕ) × (spot : Spot) × IsLiveAt h p t spot × (in_run spot.run k ≡ true)
 
--- a live texture is in use and has its image; no region lies in two live textures; no age is above the global age
+-- region k lies in a live texture, or is a live shared region
+abbrev pub HasLive : Heap → Private → ℕ → Type 0
+HasLive h p k = IsTextured h p k ⊎ ((level : ℕ) × IsLiveShared h p k level)
+
+-- a live texture is in use and has its image, and a small one stands in a live shared region, below its level and apart from its client's others; a live shared region has small textures alone; none is two clients'; no age is above the global age
 pub record Intact (s : Scene) (w : World) : Type 0 where
   pub ages : (k : ℕ) → w.heap.age k ≤ w.heap.global
   pub locals : (c : ℕ) → (w.client c).local ≤ w.heap.global
-  pub used : (c t : ℕ) (run : Heaps.Run) → IsLiveAt w.heap (w.client c) t run → (k : ℕ) → in_run run k ≡ true → w.heap.used k ≡ true
-  pub image : (c t : ℕ) (run : Heaps.Run) → IsLiveAt w.heap (w.client c) t run →
-      HasBytes w.memory (base_of s.region_size run) (bytes_of (texture_in (textures_of s c) t))
-  pub apart : (c t u k : ℕ) (a b : Heaps.Run) → IsLiveAt w.heap (w.client c) t a → IsLiveAt w.heap (w.client c) u b → in_run a k ≡ true → in_run b k ≡ true → t ≡ u
+  pub used : (c t : ℕ) (spot : Spot) → IsLiveAt w.heap (w.client c) t spot → (k : ℕ) → in_run spot.run k ≡ true → w.heap.used k ≡ true
+  pub image : (c t : ℕ) (spot : Spot) → IsLiveAt w.heap (w.client c) t spot →
+      HasBytes w.memory (base_of s.region_size spot) (bytes_of (texture_in (textures_of s c) t))
+  pub below : (c t : ℕ) (spot : Spot) → IsLiveAt w.heap (w.client c) t spot → is_small s c t ≡ true →
+      (level : ℕ) × IsLiveShared w.heap (w.client c) spot.run.first level × (spot.block + blocks_needed s c t ≤ level)
+  pub apart : (c t u k : ℕ) (a b : Spot) → IsLiveAt w.heap (w.client c) t a → IsLiveAt w.heap (w.client c) u b → t ≢ u → in_run a.run k ≡ true → in_run b.run k ≡ true →
+      (a.block + blocks_needed s c t ≤ b.block) ⊎ (b.block + blocks_needed s c u ≤ a.block)
+  pub shared : (c k level : ℕ) → IsLiveShared w.heap (w.client c) k level → (use_of w.heap k ≡ 2) × (level ≤ s.region_size / 64)
+  pub only_small : (c k level t : ℕ) (spot : Spot) → IsLiveShared w.heap (w.client c) k level → (w.client c).placed t ≡ Some spot → in_run spot.run k ≡ true → is_small s c t ≡ true
   pub alone : (c d k : ℕ) → HasLive w.heap (w.client c) k → HasLive w.heap (w.client d) k → c ≡ d
 
 -- nobody holds, no client asks, every client is ended or dead, and all changes were made

@@ -10,11 +10,11 @@ use Rattle.dri_core.specs.CoreRuns.{after_events}
 use Rattle.dri_core.specs.Cores.{Core, is_first, is_next, is_queued, opening_core}
 use Rattle.dri_core.specs.EventTable.{after_event}
 use Rattle.dri_core.specs.Phases.{Phase, is_done, is_holding}
-use Rattle.dri_core.specs.Privates.{Private, textured_with}
+use Rattle.dri_core.specs.Privates.{Private, room_in, textured_with}
 use Rattle.dri_base.specs.Scenes.{command_at, regions_needed}
 use Rattle.dri_core.specs.Worlds.{World}
 use Rattle.dri_model.specs.Groups.{bits, is_empty}
-use Rattle.dri_model.specs.Heaps.{classes_for, lowest_place}
+use Rattle.dri_model.specs.Heaps.{Heap, Spot, classes_for, lowest_place}
 use Rattle.dri_base.specs.declared.command.Command.TheVariants as Command_is
 use Rattle.dri_core.specs.Phases as Phase_is
 
@@ -32,11 +32,16 @@ or_waiting k a e = if not k.word.held && is_next a k.queue then Some e else wait
 abbrev pub emit_turn : Private → ℕ → Option Event
 emit_turn p c = if is_empty p.dirty then Some (Run c p.place) else Some (Emit c (bits p.dirty))
 
+-- where the run for so many regions begins: where there is room, at its region; else by the heap's rule
+abbrev pub start_for : Option Spot → ℕ → Heap → ℕ → ℕ
+start_for None n h count = lowest_place n h count (classes_for n h count)
+start_for (Some room) n h count = room.run.first
+
 -- place the texture that isn't there, else emit what is dirty, else draw
 abbrev pub triangle_turn : Scene → World → ℕ → Option ℕ → Option Event
 triangle_turn s w c (Some t) =
     if is_none ((w.client c).placed t)
-    then Some (Place c t (lowest_place s.regions w.heap (regions_needed s c t) (classes_for s.regions w.heap (regions_needed s c t))) (regions_needed s c t))
+    then Some (Place c t (start_for (room_in s c (w.client c) t) s.regions w.heap (regions_needed s c t)) (regions_needed s c t))
     else emit_turn (w.client c) c
 triangle_turn s w c None = emit_turn (w.client c) c
 

@@ -52,7 +52,7 @@ opening s = record {
   holder = None;
   left = 1;
   owner = 0;
-  heap = record { global = 0; used = λ k. false; age = λ k. 0 };
+  heap = record { global = 0; used = λ k. false; shared = λ k. false; age = λ k. 0 };
   stack = s.windows;
   stamps = λ n. 1;
   counter = 1;

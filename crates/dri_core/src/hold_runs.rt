@@ -18,7 +18,7 @@ use dri_base::{Entry, Scene};
 /// The central invariant. Where nobody holds and a client left last and is out, its stamp, its copy of the clips, its
 /// origin and its local age are current and it owns the card, so its light lock needs no check. The same holds of a
 /// client that may act. What the owner hasn't marked dirty is in the card, and placed textures that no newer region
-/// has touched are intact.
+/// has touched are intact: small ones stand apart in their client's shared regions, and no region is two clients'.
 pub fn central()
     ensures light { (s : Scene) (journal : List Entry) → InRange s → HoldRun s journal → LightIsCurrent s (after s journal) }
     ensures acting { (s : Scene) (journal : List Entry) → InRange s → HoldRun s journal → ActingIsCurrent s (after s journal) }

@@ -1,6 +1,8 @@
 -- counting and runs of regions
 pub mod Counts
 pub mod Rooms
+pub mod SharedRooms
+pub mod Moves
 -- words: each list spells one thing, and goes wrong at one place at most
 pub mod Values
 pub mod Spelling

@@ -34,7 +34,7 @@ least_top p (suc n) = by_below (any_from p 0 n) refl (p n) refl (least_top p n)
     by_below false h false q below = inr (rw (h, q) refl)
 
 -- a least number below the bound has the property
-below_has : (q : ℕ → Bool) (n : ℕ) → least q n < n → q (least q n) ≡ true
+pub below_has : (q : ℕ → Bool) (n : ℕ) → least q n < n → q (least q n) ≡ true
 below_has q zero lt = absurd (omega arith)
 below_has q (suc n) lt = by_below (any_from q 0 n) refl (q n) refl
   where
@@ -45,6 +45,26 @@ below_has q (suc n) lt = by_below (any_from q 0 n) refl (q n) refl
       where
         top : suc n < suc n → ⊥
         top t = omega arith
+
+-- and no number below it has
+pub none_below : (q : ℕ → Bool) (n k : ℕ) → k < least q n → q k ≡ false
+none_below q zero k lt = absurd (omega arith)
+none_below q (suc n) k lt = by_below (any_from q 0 n) refl (q n) refl (none_below q n k)
+  where
+    outside : any_from q 0 n ≡ false → k < n → q k ≡ false
+    outside h l = none_from q 0 n k h (omega arith) (omega (arith, l))
+
+    by_below : (b : Bool) → any_from q 0 n ≡ b → (a : Bool) → q n ≡ a → (k < least q n → q k ≡ false) → q k ≡ false
+    by_below true h a e below = below (rw h at lt)
+    by_below false h true e below = outside h (rw (h, e) at lt)
+    by_below false h false e below = by_place (cases_eq k n)
+      where
+        under : k < suc n
+        under = rw (h, e) at lt
+
+        by_place : (k ≡ n) ⊎ (k ≡ n → ⊥) → q k ≡ false
+        by_place (inl same) = rw same e
+        by_place (inr ne) = outside h (omega (arith, under, ne))
 
 -- fewer than all have a property that one lacks
 how_many_less : (p : ℕ → Bool) (n k : ℕ) → k < n → p k ≡ false → how_many p n < n

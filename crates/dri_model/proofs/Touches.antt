@@ -14,7 +14,7 @@ same_bool_is false false e = refl
 same_bool_is true false e = absurd (true≢false (sym e))
 same_bool_is false true e = absurd (true≢false (sym e))
 
-all_below_at : (p : ℕ → Bool) (n k : ℕ) → all_below p n ≡ true → k < n → p k ≡ true
+pub all_below_at : (p : ℕ → Bool) (n k : ℕ) → all_below p n ≡ true → k < n → p k ≡ true
 all_below_at p zero k e lt = absurd (omega arith)
 all_below_at p (suc n) k e lt = grind (arith, nat_tests, all_below_at p n k)
 

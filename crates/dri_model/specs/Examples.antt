@@ -1,5 +1,5 @@
 -- A heap of eight regions and the two triangles of a square, worked by hand.
-use Rattle.std.specs.Prelude.{ℕ, List, [], ◌∷◌, map, filter, get_or, Bool, ◌==◌, not, pos}
+use Rattle.std.specs.Prelude.{ℕ, List, [], ◌∷◌, map, filter, get_or, Bool, false, ◌==◌, not, pos}
 use Rattle.dri_base.specs.declared.colour.Rgba.{Rgba}
 use Rattle.dri_base.specs.declared.shape.Triangle.{Triangle}
 use Rattle.dri_base.specs.declared.shape.Vertex.{Vertex}
@@ -33,6 +33,7 @@ abbrev pub eight : Heap
 eight = record {
   global = 6;
   used = λ k. not (k == 2);
+  shared = λ k. false;
   age = λ k. get_or (4 ∷ 2 ∷ 0 ∷ 2 ∷ 6 ∷ 4 ∷ 1 ∷ 6 ∷ []) k 0;
 }
 

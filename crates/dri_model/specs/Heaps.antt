@@ -7,12 +7,19 @@ pub record Run : Type 0 where
   pub first : ℕ
   pub count : ℕ
 
+-- where a texture stands in texture memory: in the regions of a run, from a block of 64 bytes of its first region on
+pub record Spot : Type 0 where
+  pub run : Run
+  pub block : ℕ
+
 -- the regions: the global age, and which are in use with which age
 pub record Heap : Type 0 where
   -- the global age
   pub global : ℕ
   -- by the region's number
   pub used : ℕ → Bool
+  -- in use for small textures of one client
+  pub shared : ℕ → Bool
   pub age : ℕ → ℕ
 
 -- region k is in the run
@@ -69,6 +76,7 @@ abbrev pub allocated : ℕ → Heap → Run → Heap
 allocated n h run = record {
   global = suc (age_freed n h run.count);
   used = λ k. in_run run k || (h.used k && not (freed_for n h run.count k));
+  shared = λ k. h.shared k && not (in_run run k || freed_for n h run.count k);
   age = λ k. if in_run run k then suc (age_freed n h run.count) else (if freed_for n h run.count k then age_freed n h run.count else h.age k);
 }
 
@@ -77,21 +85,30 @@ abbrev pub touched : Run → Heap → Heap
 touched run h = record {
   global = suc h.global;
   used = h.used;
+  shared = h.shared;
   age = λ k. if in_run run k then suc h.global else h.age k;
 }
 
+-- the heap with region i marked as shared, where it is so
+abbrev pub marked : Bool → ℕ → Heap → Heap
+marked is i h = record h { shared = λ k. (is && (k == i)) || h.shared k }
+
+-- how region k is used: 0 free, 1 in use, 2 shared
+abbrev pub use_of : Heap → ℕ → ℕ
+use_of h k = if h.used k then (if h.shared k then 2 else 1) else 0
+
 -- a placed texture with a region that has the property is lost
-abbrev pub lose : (ℕ → Bool) → Option Run → Option Run
+abbrev pub lose : (ℕ → Bool) → Option Spot → Option Spot
 lose p None = None
-lose p (Some r) = if any_in r p then None else Some r
+lose p (Some spot) = if any_in spot.run p then None else Some spot
 
 -- the region is newer than this age
 abbrev pub is_newer : Heap → ℕ → ℕ → Bool
 is_newer h local k = nat_lt local (h.age k)
 
--- where a run begins in texture memory, with regions of so many bytes
-abbrev pub base_of : ℕ → Run → ℕ
-base_of size run = run.first * size
+-- where a spot begins in texture memory, with regions of so many bytes
+abbrev pub base_of : ℕ → Spot → ℕ
+base_of size spot = spot.run.first * size + 64 * spot.block
 
 -- the memory after bytes are written from a base on
 abbrev pub uploaded : (ℕ → ℕ) → ℕ → List ℕ → ℕ → ℕ

@@ -1,6 +1,7 @@
 pub mod Counting
 pub mod Stacks
 pub mod Heaps
+pub mod Shares
 pub mod Groups
 pub mod Words
 pub mod CommandWords

@@ -1,5 +1,5 @@
 -- The stack of windows, from top to bottom.
-use Rattle.std.specs.Prelude.{ℕ, List, [], ◌∷◌, ◌++◌, map, filter, Bool, true, false, ◌&&◌, not, ◌==◌, nat_lt, if◌then◌else◌, Option, Some, None, ℤ, pos, ◌+◌, ◌+ℤ◌, int_lt, int_le}
+use Rattle.std.specs.Prelude.{ℕ, List, [], ◌∷◌, ◌++◌, map, filter, Bool, true, false, ◌&&◌, ◌||◌, not, ◌==◌, nat_lt, if◌then◌else◌, is_some, Option, Some, None, ℤ, pos, negsuc, ◌+◌, ◌+ℤ◌, ◌-ℤ◌, int_lt, int_le}
 use Rattle.std.specs.Ordering.{int_eq}
 use Rattle.dri_base.specs.declared.colour.Rgb.{Rgb}
 use Rattle.dri_base.specs.declared.scene.Window.{Window}
@@ -85,6 +85,29 @@ unless_refused (Some why) old new = old
 abbrev pub stack_after : Change → List Window → List Window
 stack_after change ws = unless_refused (refusal change ws) ws (changed change ws)
 
+-- the window that a change is to move
+abbrev pub moves : Change → Option ℕ
+moves (Move n x y) = Some n
+moves (Map n) = None
+moves (Unmap n) = None
+moves (Resize n width height) = None
+moves (Raise n) = None
+moves (Lower n) = None
+
+-- that window, unless the change is refused
+abbrev pub moves_unless : Option Refusal → Option ℕ → Option ℕ
+moves_unless None moved = moved
+moves_unless (Some why) moved = None
+
+-- the window that a change moves, where it is a move that isn't refused
+abbrev pub moved_by : Change → List Window → Option ℕ
+moved_by change ws = moves_unless (refusal change ws) (moves change)
+
+-- window n is the moved one
+abbrev pub is_moved : ℕ → Option ℕ → Bool
+is_moved n None = false
+is_moved n (Some m) = m == n
+
 -- the window, unmapped where client c owns it
 abbrev pub unmapped : ℕ → Window → Window
 unmapped c w = if w.owner == c then record w { mapped = false } else w
@@ -132,6 +155,51 @@ restamped width height old new counter stamps n =
 abbrev pub touches : ℕ → ℕ → List Window → List Window → ℕ
 touches width height old new = how_many (is_touched width height old new) 65
 
--- front after a new stack: the new topmost window's background, or the root colour, where the topmost window changed
-abbrev pub painted : Rgb → List Window → List Window → (ℕ → ℕ → Rgb) → ℕ → ℕ → Rgb
-painted root old new front x y = if same_top (top old x y) (top new x y) then front x y else ground_colour root (top new x y)
+-- how far window n moves from one stack to the other
+abbrev pub shift : List Window → List Window → ℕ → ℤ × ℤ
+shift old new n = ((origin new n).0 -ℤ (origin old n).0, (origin new n).1 -ℤ (origin old n).1)
+
+-- the pixel with this column and this row, where the set has it
+abbrev pub pixel_in : (ℕ → ℕ → Bool) → ℤ → ℤ → Option (ℕ × ℕ)
+pixel_in f (pos x) (pos y) = if f x y then Some (x, y) else None
+pixel_in f (pos x) (negsuc y) = None
+pixel_in f (negsuc x) y = None
+
+-- the pixel less window n's move, where the window showed there
+abbrev pub was_at : ℕ → ℕ → List Window → List Window → ℕ → ℕ → ℕ → Option (ℕ × ℕ)
+was_at width height old new n x y = pixel_in (clips width height old n) (pos x -ℤ (shift old new n).0) (pos y -ℤ (shift old new n).1)
+
+-- where a carried pixel comes from: it is one of the moved window's new clips, and less the move one of its old ones
+abbrev pub carried_from : ℕ → ℕ → List Window → List Window → Option ℕ → ℕ → ℕ → Option (ℕ × ℕ)
+carried_from width height old new None x y = None
+carried_from width height old new (Some n) x y = if clips width height new n x y then was_at width height old new n x y else None
+
+-- what a plane has after a move: at a carried pixel what stood where it comes from, else the other value
+abbrev pub carried : {A : Type 0} → Option (ℕ × ℕ) → (ℕ → ℕ → A) → A → A
+carried None plane other = other
+carried (Some p) plane other = plane p.0 p.1
+
+-- each pixel at which window n shows in the new stack is, less the move, one at which it showed in the old one
+abbrev pub all_came : ℕ → ℕ → List Window → List Window → ℕ → Bool
+all_came width height old new n =
+    all_below (λ x. all_below (λ y. not (clips width height new n x y) || is_some (was_at width height old new n x y)) height) width
+
+-- window n is moved whole: its new clips are its old ones, translated by the move
+abbrev pub is_moved_whole : ℕ → ℕ → List Window → List Window → Option ℕ → ℕ → Bool
+is_moved_whole width height old new moved n = is_moved n moved && (all_came width height old new n && all_came width height new old n)
+
+-- the topmost window is the moved one, and its origin is another than before
+abbrev pub is_displaced : Option ℕ → List Window → List Window → Option Window → Bool
+is_displaced moved old new None = false
+is_displaced moved old new (Some w) = is_moved w.number moved && not (same_origin (origin old w.number) (origin new w.number))
+
+-- front after a new stack at a pixel that isn't carried: the new topmost window's background, or the root colour, where the topmost window changed or is displaced
+abbrev pub painted : Rgb → Option ℕ → List Window → List Window → (ℕ → ℕ → Rgb) → ℕ → ℕ → Rgb
+painted root moved old new front x y =
+    if same_top (top old x y) (top new x y) && not (is_displaced moved old new (top new x y)) then front x y else ground_colour root (top new x y)
+
+-- what a pixel is painted with after the carrying, if it is: the ground colour of the new topmost window, where the pixel isn't carried and that window changed or is displaced
+abbrev pub repaint : ℕ → ℕ → Rgb → List Window → List Window → Option ℕ → ℕ → ℕ → Option Rgb
+repaint width height root old new moved x y =
+    if is_some (carried_from width height old new moved x y) || (same_top (top old x y) (top new x y) && not (is_displaced moved old new (top new x y))) then None
+    else Some (ground_colour root (top new x y))

@@ -2,9 +2,10 @@
 //! and the command words. The functions here do nothing; their contracts are what holds of the definitions.
 #![tactic(auto)]
 
-ghost use Rattle.std.specs.Prelude.{◌≡◌, ◌<◌, ◌≤◌, ℕ, List, [], ◌∷◌, true, false};
+ghost use Rattle.std.specs.Prelude.{◌≡◌, ◌<◌, ◌≤◌, ℕ, List, [], ◌∷◌, true, false, Option, Some, None};
+ghost use Rattle.dri_model.specs.Shares.{IsRoomFor, fits_above, room_for};
 ghost use Rattle.dri_base.specs.declared.state.Registers.{Registers};
-ghost use Rattle.dri_model.specs.Heaps.{Heap, is_place_for, lowest_place, classes_for, allocated, touched};
+ghost use Rattle.dri_model.specs.Heaps.{Heap, Spot, is_place_for, lowest_place, classes_for, allocated, touched};
 ghost use Rattle.dri_model.specs.Words.{Spelled, loaded};
 ghost use Rattle.dri_model.specs.CommandWords.{Buffer};
 ghost use Rattle.dri_model.specs.WordFaults.{HasOneFault};
@@ -16,6 +17,12 @@ ghost use Rattle.dri_model.specs.Examples.{upper_left, lower_right, covered, eig
 /// The heap's rule always finds a run, for as many regions as there are.
 pub fn always_room()
     ensures { (n : ℕ) (h : Heap) (count : ℕ) → 0 < n → count ≤ n → is_place_for n h count (lowest_place n h count (classes_for n h count)) ≡ true }
+{}
+
+/// Room in shared regions is found exactly where it is: in the one with the lowest number.
+pub fn shared_room()
+    ensures found { (size : ℕ) (levels : ℕ → Option ℕ) (blocks : ℕ) (room : Spot) → room_for size levels blocks ≡ Some room → IsRoomFor size levels blocks room }
+    ensures none { (size : ℕ) (levels : ℕ → Option ℕ) (blocks k : ℕ) → room_for size levels blocks ≡ None → k < 64 → fits_above size blocks (levels k) ≡ false }
 {}
 
 /// Register words that the card takes leave the same registers, whatever they are read as; and command words are one
