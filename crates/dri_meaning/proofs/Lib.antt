@@ -9,5 +9,5 @@ pub mod Wholes
 -- what is drawn alone
 mod PixelRules
 mod SoloPixels
-mod Painting
+pub mod Painting
 pub mod ScriptRanges

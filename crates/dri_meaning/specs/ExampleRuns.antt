@@ -78,6 +78,31 @@ one_region_journal =
     (first_hold 2 2 ++ Run 2 1 ∷ Run 2 2 ∷ Run 2 3 ∷ Place 2 1 0 1 ∷ Emit 2 127 ∷ Run 2 4 ∷ Run 2 5 ∷ Leave 2 ∷ []) ++
     Kernel 1 3 ∷ Run 1 6 ∷ Place 1 1 0 1 ∷ Emit 1 127 ∷ Run 1 7 ∷ Run 1 8 ∷ Leave 1 ∷ []
 
+-- the second small texture is placed where there is room: with no age
+abbrev pub two_small_journal : List Entry
+two_small_journal =
+    first_hold 1 1 ++ Run 1 1 ∷ Run 1 2 ∷ Run 1 3 ∷ Place 1 1 0 1 ∷ Emit 1 127 ∷ Run 1 4 ∷ Run 1 5 ∷ Place 1 2 0 1 ∷ Emit 1 32 ∷ Run 1 6 ∷
+    Run 1 7 ∷ Emit 1 32 ∷ Run 1 8 ∷ Run 1 9 ∷ Leave 1 ∷ []
+
+-- each texture takes the place of the other
+abbrev pub small_and_large_journal : List Entry
+small_and_large_journal =
+    first_hold 1 1 ++ Run 1 1 ∷ Run 1 2 ∷ Run 1 3 ∷ Place 1 1 0 1 ∷ Emit 1 127 ∷ Run 1 4 ∷ Run 1 5 ∷ Place 1 2 0 1 ∷ Emit 1 32 ∷ Run 1 6 ∷
+    Run 1 7 ∷ Place 1 1 0 1 ∷ Emit 1 32 ∷ Run 1 8 ∷ Run 1 9 ∷ Leave 1 ∷ []
+
+-- the third texture frees the region that the others share
+abbrev pub three_halves_journal : List Entry
+three_halves_journal =
+    first_hold 1 1 ++ Run 1 1 ∷ Run 1 2 ∷ Run 1 3 ∷ Place 1 1 0 1 ∷ Emit 1 127 ∷ Run 1 4 ∷ Run 1 5 ∷ Place 1 2 0 1 ∷ Emit 1 32 ∷ Run 1 6 ∷
+    Run 1 7 ∷ Place 1 3 0 1 ∷ Emit 1 32 ∷ Run 1 8 ∷ Run 1 9 ∷ Leave 1 ∷ []
+
+-- the fourth begins a second region, and the fifth goes into the first one again
+abbrev pub five_small_journal : List Entry
+five_small_journal =
+    first_hold 1 1 ++ Run 1 1 ∷ Run 1 2 ∷ Run 1 3 ∷ Place 1 1 0 1 ∷ Emit 1 127 ∷ Run 1 4 ∷ Run 1 5 ∷ Place 1 2 0 1 ∷ Emit 1 32 ∷ Run 1 6 ∷
+    Run 1 7 ∷ Place 1 3 0 1 ∷ Emit 1 32 ∷ Run 1 8 ∷ Run 1 9 ∷ Place 1 4 1 1 ∷ Emit 1 32 ∷ Run 1 10 ∷ Run 1 11 ∷ Place 1 5 0 1 ∷ Emit 1 32 ∷
+    Run 1 12 ∷ Run 1 13 ∷ Leave 1 ∷ []
+
 -- all groups at once, before the one triangle
 abbrev pub cut_out_journal : List Entry
 cut_out_journal = first_hold 1 1 ++ Run 1 1 ∷ Run 1 2 ∷ Emit 1 127 ∷ Run 1 3 ∷ Run 1 4 ∷ Leave 1 ∷ []

@@ -1,5 +1,5 @@
 -- Scenes that were worked by hand.
-use Rattle.std.specs.Prelude.{ℕ, List, [], ◌∷◌, ◌++◌, pos, neg_ℤ, true, false, Some, None, map}
+use Rattle.std.specs.Prelude.{ℕ, List, [], ◌∷◌, ◌++◌, pos, neg_ℤ, true, false, Some, None, map, replicate}
 use Rattle.dri_base.specs.declared.colour.Rgba.{Rgba}
 use Rattle.dri_base.specs.declared.command.Change.TheVariants.{Map, Unmap, Move, Resize, Raise, Lower}
 use Rattle.dri_base.specs.declared.command.Change.{Change}
@@ -20,6 +20,14 @@ use Rattle.dri_base.specs.declared.state.Wrap.TheVariants as Wrap_is
 use Rattle.dri_base.specs.declared.texture.TexFormat.TheVariants.{L8, Rgb565}
 use Rattle.dri_base.specs.declared.texture.Texture.{Texture}
 use Rattle.dri_core.specs.ExampleParts.{rgb, rgba, corner, corner_triangle, window, grey_texture, script, scene, turns_of, textured_frame, textured}
+
+-- bytes of one grey, in a square of 8 by 8
+abbrev pub small_texture : ℕ → ℕ → Texture
+small_texture number grey = record { number = number; shape = record { format = L8; width = 8; height = 8 }; bytes = replicate 64 grey }
+
+-- and in 12 by 11
+abbrev pub large_texture : ℕ → ℕ → Texture
+large_texture number grey = record { number = number; shape = record { format = L8; width = 12; height = 11 }; bytes = replicate 132 grey }
 
 -- a triangle of six pixels
 abbrev pub one_triangle : Scene
@@ -87,6 +95,56 @@ one_region = scene 2 1
     (window 1 (pos 0) (pos 0) 1 1 (rgb 0 0 0) 1 ∷ window 2 (pos 1) (pos 0) 1 1 (rgb 0 0 0) 2 ∷ [])
     (script 1 (grey_texture 0x40 ∷ []) (textured (textured_frame ++ textured_frame)) ∷
     script 2 (grey_texture 0x80 ∷ []) (textured textured_frame) ∷ [])
+    [] (turns_of 13 1 ++ turns_of 13 2)
+
+-- a triangle with a texture bound before it
+abbrev pub drawn_with : ℕ → List Command
+drawn_with t = Set (Setting_is.Bind (Some t)) ∷ corner_triangle 64 (rgba 0xff 0xff 0xff 0xff) ∷ []
+
+-- one client draws with its first texture, its second, and its first again, in one region
+abbrev pub with_textures : List Texture → Scene
+with_textures textures = scene 2 1
+    (window 1 (pos 0) (pos 0) 2 1 (rgb 0 0 0) 1 ∷ [])
+    (script 1 textures
+    (Set (Setting_is.TexMode Mode_is.Replace) ∷ Set (Setting_is.Bind (Some 1)) ∷ Clear (rgb 0 0 0) 65535 ∷ corner_triangle 64 (rgba 0xff 0xff 0xff 0xff) ∷
+    drawn_with 2 ++ drawn_with 1 ++ Swap ∷ []) ∷ [])
+    [] []
+
+-- two small ones share the region
+abbrev pub two_small : Scene
+two_small = with_textures (small_texture 1 0x40 ∷ small_texture 2 0x80 ∷ [])
+
+-- a small one, and one that isn't, take it from each other
+abbrev pub small_and_large : Scene
+small_and_large = with_textures (small_texture 1 0x40 ∷ large_texture 2 0x80 ∷ [])
+
+-- of half a region, in 16 by 8
+abbrev pub half_texture : ℕ → ℕ → Texture
+half_texture number grey = record { number = number; shape = record { format = L8; width = 16; height = 8 }; bytes = replicate 128 grey }
+
+-- three textures of half a region: the first two fill it, so the third frees it, with both
+abbrev pub three_halves : Scene
+three_halves = scene 2 1
+    (window 1 (pos 0) (pos 0) 2 1 (rgb 0 0 0) 1 ∷ [])
+    (script 1 (half_texture 1 0x40 ∷ half_texture 2 0x80 ∷ half_texture 3 0xc0 ∷ [])
+    (Set (Setting_is.TexMode Mode_is.Replace) ∷ Clear (rgb 0 0 0) 65535 ∷ drawn_with 1 ++ drawn_with 2 ++ drawn_with 3 ++ Swap ∷ []) ∷ [])
+    [] []
+
+-- three small textures of one block, one of half a region, and one more of one block, with two regions
+abbrev pub five_small : Scene
+five_small = record (scene 2 1
+    (window 1 (pos 0) (pos 0) 2 1 (rgb 0 0 0) 1 ∷ [])
+    (script 1 (small_texture 1 0x40 ∷ small_texture 2 0x80 ∷ small_texture 3 0xc0 ∷ half_texture 4 0xf0 ∷ small_texture 5 0x10 ∷ [])
+    (Set (Setting_is.TexMode Mode_is.Replace) ∷ Clear (rgb 0 0 0) 65535 ∷
+    drawn_with 1 ++ drawn_with 2 ++ drawn_with 3 ++ drawn_with 4 ++ drawn_with 5 ++ Swap ∷ []) ∷ [])
+    [] []) { regions = 2 }
+
+-- two clients, each with a small texture, in one region: client 1 draws, client 2 draws, client 1 draws again
+abbrev pub two_owners : Scene
+two_owners = scene 2 1
+    (window 1 (pos 0) (pos 0) 1 1 (rgb 0 0 0) 1 ∷ window 2 (pos 1) (pos 0) 1 1 (rgb 0 0 0) 2 ∷ [])
+    (script 1 (small_texture 1 0x40 ∷ []) (textured (textured_frame ++ textured_frame)) ∷
+    script 2 (small_texture 1 0x80 ∷ []) (textured textured_frame) ∷ [])
     [] (turns_of 13 1 ++ turns_of 13 2)
 
 -- a scissor in a window that begins left of the screen
@@ -184,13 +242,9 @@ along_the_row = on_a_row 2 (record { number = 1; shape = record { format = L8; w
     (textured (Clear (rgb 0 0 0) 65535 ∷
     Triangle (record { a = corner 0 0 (rgba 0 0 0 0xff); b = record (corner 64 0 (rgba 0 0 0 0xff)) { s = 64 }; c = corner 0 64 (rgba 0 0 0 0xff) }) ∷ Swap ∷ []))
 
--- one grey texel
-abbrev pub one_texel : ℕ → ℕ → Texture
-one_texel number grey = record { number = number; shape = record { format = L8; width = 1; height = 1 }; bytes = grey ∷ [] }
-
--- two textures in a region each
+-- two textures that aren't small, in a region each
 abbrev pub two_regions : Scene
-two_regions = record (on_a_row 1 (one_texel 1 0x40 ∷ one_texel 2 0x80 ∷ []) (textured (Clear (rgb 0 0 0) 65535 ∷ deep_triangle 0 (rgba 0 0 0 0xff) ∷
+two_regions = record (on_a_row 1 (large_texture 1 0x40 ∷ large_texture 2 0x80 ∷ []) (textured (Clear (rgb 0 0 0) 65535 ∷ deep_triangle 0 (rgba 0 0 0 0xff) ∷
     Set (Setting_is.Bind (Some 2)) ∷ deep_triangle 0 (rgba 0 0 0 0xff) ∷ Set (Setting_is.Bind (Some 1)) ∷ deep_triangle 0 (rgba 0 0 0 0xff) ∷ Swap ∷ []))) { regions = 2 }
 
 -- a texture of two by two greys, and one of one texel with sixteen bits

@@ -33,7 +33,7 @@ standing_after (Some (Clear colour depth)) old = Stood
 standing_after (Some Swap) old = NoClear
 standing_after _ old = old
 
--- what a new stamp makes of it
+-- what an entry that doesn't keep what stands on the window makes of it
 abbrev pub cut_by : Bool → Standing → Standing
 cut_by true Stood = Cut
 cut_by _ old = old

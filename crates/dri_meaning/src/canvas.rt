@@ -40,8 +40,8 @@ pub struct Canvas {
     pub pairs: Plane<Pixel>,
 }
 
-/// The registers of a state and its texture.
-fn registers_alone(state: &State, texture: Option<&Texture>) -> Registers
+/// The registers of a state and its texture, which begins a memory that is its own bytes.
+pub fn registers_alone(state: &State, texture: Option<&Texture>) -> Registers
     ensures { result ≡ registers_alone state.now (option_copied texture.entry) }
 {
     let bound = match texture {
@@ -64,7 +64,7 @@ fn registers_alone(state: &State, texture: Option<&Texture>) -> Registers
 }
 
 /// The bytes of a texture, and none where there is no texture.
-fn bytes_of(texture: Option<&Texture>) -> &[u8]
+pub fn bytes_of(texture: Option<&Texture>) -> &[u8]
     ensures { result.now ≡ bytes_of (option_copied texture.entry) }
 {
     match texture {
