@@ -6,3 +6,5 @@ pub mod Bytes
 pub mod CardPlanes
 -- What the registers' words give
 pub mod Readings
+-- Pixels that are carried
+pub mod Carrying

@@ -1,5 +1,6 @@
 -- What the card's calls make of its pixels.
-use Rattle.std.specs.Prelude.{ℕ, ◌≡◌, List, fold, sum_by, if◌then◌else◌, ℤ, pos, ◌-ℤ◌}
+use Rattle.std.specs.Prelude.{ℕ, ◌≡◌, List, ◌∷◌, ◌++◌, All, Bool, fold, sum_by, if◌then◌else◌, ℤ, pos, neg_ℤ, ◌-ℤ◌, ◌≤ℤ◌}
+use Rattle.std.specs.List.{list_any}
 use Rattle.dri_base.specs.declared.colour.Rgb.{Rgb}
 use Rattle.dri_base.specs.declared.colour.Pixel.{Pixel}
 use Rattle.dri_base.specs.declared.shape.ClipRect.{ClipRect}
@@ -7,11 +8,15 @@ use Rattle.dri_base.specs.declared.shape.Point.{Point}
 use Rattle.dri_base.specs.declared.shape.Triangle.{Triangle}
 use Rattle.dri_base.specs.Fragments.{fragment}
 use Rattle.dri_model.specs.CommandWords.{Buffer as IsBuffer}
+use Rattle.dri_model.specs.Stacks.{carried, pixel_in}
 use Rattle.dri_model.specs.WordFaults.{IsBadWord}
 use Rattle.dri_model.specs.Words.{rules_in, card_image}
 use Rattle.dri_base.specs.Planes.{in_rect}
 use Rattle.dri_card.specs.declared.faults.DispatchFault.{DispatchFault}
 use Rattle.dri_card.specs.declared.faults.DispatchFault.TheVariants.{BadWord}
+use Rattle.dri_card.specs.declared.faults.OutsideCard.{OutsideCard}
+use Rattle.dri_card.specs.declared.faults.OutsideCard.TheVariants.{Clip}
+use Rattle.dri_plane.specs.Moves.{StaysInside}
 use Rattle.dri_card.specs.Contents.{Contents, memory_of}
 use Rattle.dri_walk.specs.Clips.{covered_places}
 
@@ -54,3 +59,33 @@ OnlyShown old new = new ≡ record old { front = new.front }
 -- command words that can't be drawn
 abbrev pub IsDispatchFault : List ℕ → DispatchFault → Type 0
 IsDispatchFault words (BadWord b) = IsBadWord IsBuffer words b.at b.word
+
+-- the place lies in one of the rectangles
+abbrev pub in_rects : List ClipRect → ℕ → ℕ → Bool
+in_rects rects x y = list_any (λ r. in_rect r x y) rects
+
+-- a plane after the pixels of the rectangles are carried by (dx, dy): at the places that they come to, what stood where they come from
+abbrev pub carried_by : {A : Type 0} → List ClipRect → ℤ → ℤ → (ℕ → ℕ → A) → ℕ → ℕ → A
+carried_by rects dx dy f x y = carried (pixel_in (in_rects rects) (pos x -ℤ dx) (pos y -ℤ dy)) f (f x y)
+
+-- how far pixels may be carried: from -2,048 to 2,048
+abbrev pub IsCarry : ℤ → Type 0
+IsCarry d = (neg_ℤ (pos 2048) ≤ℤ d) × (d ≤ℤ pos 2048)
+
+-- the rectangle lies on the card, and so it does once it is moved by (dx, dy)
+abbrev pub StaysOnCard : ℤ → ℤ → Contents → ClipRect → Type 0
+StaysOnCard dx dy v rect = StaysInside dx dy v.front.width v.front.height rect
+
+-- the first rectangle that doesn't stay on the card is named
+pub record IsFirstOff (dx dy : ℤ) (v : Contents) (rects : List ClipRect) (outside : OutsideCard) : Type 0 where
+  pub before : List ClipRect
+  pub rect : ClipRect
+  pub after : List ClipRect
+  pub listed : rects ≡ before ++ rect ∷ after
+  pub stay : All (StaysOnCard dx dy v) before
+  pub off : StaysOnCard dx dy v rect → ⊥
+  pub named : outside ≡ Clip rect
+
+-- nothing but front, back and depth differs
+abbrev pub OnlyCarried : Contents → Contents → Type 0
+OnlyCarried old new = new ≡ record old { front = new.front; back = new.back; depth = new.depth }

@@ -1,9 +1,10 @@
 -- What always holds of the card.
-use Rattle.std.specs.Prelude.{length}
+use Rattle.std.specs.Prelude.{◌*◌, length}
 use Rattle.dri_base.specs.Ranges.{IsSide}
 use Rattle.dri_model.specs.Words.{IsBoundInRange, IsScissorInRange}
 use Rattle.dri_card.specs.declared.card.Card.TheInside.{Inside}
 use Rattle.dri_card.specs.Contents.{Contents, HaveSides, IsOnCard}
+use Rattle.dri_card.specs.Lifting.{HaveRoom}
 use Rattle.dri_card.specs.Loading.{IsImageWithin}
 
 -- what the card holds
@@ -19,3 +20,8 @@ pub record FitTogether (v : Contents) : Type 0 where
   pub scissor : IsScissorInRange v.registers.scissor
   pub image : IsImageWithin (length v.memory) v.registers.bound
   pub clip : IsOnCard v.clip v
+
+-- what the card holds fits together, and the lists have room for the pixels of the screen
+pub record IsCard (c : Inside) : Type 0 where
+  pub fit : FitTogether (contents c)
+  pub room : HaveRoom (c.front.width * c.front.height) c.lifts

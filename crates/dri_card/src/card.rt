@@ -1,7 +1,8 @@
-//! The card keeps its three planes, its registers, the bytes of its texture memory and its clip. What it keeps always
-//! fits together: the planes have the same sides, the clip lies on them, and the bound image lies in the memory.
+//! The card keeps its three planes, its registers, the bytes of its texture memory and its clip, and lists in which pixels
+//! wait while they are carried. What it keeps always fits together: the planes have the same sides, the clip lies on them,
+//! the bound image lies in the memory, and the lists have room for the pixels of the screen.
 
-ghost use Rattle.std.specs.Prelude.{◌≡◌, ◌≤◌, ◌+◌, ◌*◌, ℕ, length, All, None, OnOk, OnErr, IfOk, IfErr, IsOk, ◌↔◌};
+ghost use Rattle.std.specs.Prelude.{◌≡◌, ◌≤◌, ◌+◌, ◌*◌, ℕ, length, All, AllPairs, None, OnOk, OnErr, IfOk, IfErr, IsOk, IsTrue, ◌↔◌, pos, ◌+ℤ◌, ◌≤ℤ◌};
 ghost use Rattle.dri_base.specs.declared.colour.Pixel.{Pixel};
 ghost use Rattle.dri_base.specs.declared.colour.Rgb.{Rgb};
 ghost use Rattle.dri_base.specs.declared.shape.Triangle.{Triangle};
@@ -11,13 +12,15 @@ ghost use Rattle.dri_model.specs.CommandWords.{IsTriangle, triangle_words, Buffe
 ghost use Rattle.dri_model.specs.Heaps.{uploaded};
 ghost use Rattle.dri_model.specs.Words.{registers_for};
 ghost use Rattle.dri_plane.specs.Grids.{pixel_count};
+ghost use Rattle.dri_plane.specs.Moves.{AreApart, pixel_counts};
 ghost use Rattle.dri_card.specs.Contents.{Holds, IsOnCard, IsOpening, KeepSides, Shows, memory_of};
-ghost use Rattle.dri_card.specs.Drawing.{IsDispatchFault, OnlyDrawn, OnlyShown, after_triangle, after_triangles, cleared, covered_centres, painted, swapped};
+ghost use Rattle.dri_card.specs.Drawing.{IsCarry, IsDispatchFault, IsFirstOff, OnlyCarried, OnlyDrawn, OnlyShown, StaysOnCard, after_triangle, after_triangles, carried_by, cleared, covered_centres, painted, swapped};
 ghost use Rattle.dri_walk.specs.Clips.{covered_places};
 ghost use Rattle.dri_card.specs.Loading.{CanLoad, IsLoadFault, registers_after};
 ghost use Rattle.dri_card.specs.declared.faults.OutsideCard.TheVariants.{Base, Clip};
 
 use crate::faults::{DispatchFault, LoadFault, OutsideCard};
+use crate::lifts::Lifts;
 use crate::memory::{expect_within, write, zeros};
 use crate::opening::opening_front;
 use crate::target::Target;
@@ -39,23 +42,25 @@ pub struct Card {
     registers: Registers,
     memory: Vec<u8>,
     clip: ClipRect,
+    lifts: Lifts,
 }
 
 impl Model for Card {
     ghost use Rattle.dri_card.specs.Contents.{Contents};
-    ghost use Rattle.dri_card.specs.Invariants.{FitTogether, contents};
+    ghost use Rattle.dri_card.specs.Invariants.{IsCard, contents};
 
     ghost Value = { Contents };
 
     ghost view = { contents };
 
-    ghost invariant = { λ c. FitTogether (contents c) };
+    ghost invariant = { IsCard };
 }
 
 impl Card {
     /// The card of a scene before anything is drawn: in front each pixel has the background of its topmost mapped window,
     /// or the root colour; back is black and depth is 65,535; the registers are those of the default state with nothing
-    /// bound; the texture memory is zero; and the clip is empty. The scene is in range.
+    /// bound; the texture memory is zero; and the clip is empty. All memory that the card needs is taken here. The scene is
+    /// in range.
     pub fn new(alloc: Global, scene: &Scene) -> Result<Card, OutOfMemory>
         requires { InRange scene.now }
         ensures { IfOk result (IsOpening scene.now) }
@@ -260,6 +265,65 @@ impl Card {
         Ok(())
     }
 
+    // Refuses a rectangle that isn't on the card, or isn't once it is moved by (dx, dy).
+    fn expect_stays(&self, rect: ClipRect, dx: i32, dy: i32) -> Result<(), OutsideCard>
+        requires dx { IsCarry dx }
+        requires dy { IsCarry dy }
+        ensures stays { IsOk result ↔ StaysOnCard dx dy self.now rect }
+        ensures off { IfErr result (λ outside. outside ≡ Clip rect) }
+    {
+        self.expect_inside(rect)?;
+        let columns = stays_within(rect.x1, rect.x2, dx, self.front.width());
+        let rows = stays_within(rect.y1, rect.y2, dy, self.front.height());
+        if columns && rows {
+            return Ok(());
+        }
+        Err(OutsideCard::Clip { rect })
+    }
+
+    // Refuses the first rectangle that doesn't stay on the card.
+    fn expect_all_stay(&self, rects: &[ClipRect], dx: i32, dy: i32) -> Result<(), OutsideCard>
+        requires dx { IsCarry dx }
+        requires dy { IsCarry dy }
+        ensures stay { IsOk result ↔ All (StaysOnCard dx dy self.now) rects.now }
+        ensures off { IfErr result (IsFirstOff dx dy self.now rects.now) }
+    {
+        for rect in rects {
+            self.expect_stays(*rect, dx, dy)?;
+        }
+        Ok(())
+    }
+
+    /// Carries the pixels of some rectangles by (dx, dy) in front, back and depth, exactly where each rectangle lies on the
+    /// card, and still does once it is moved. In each plane every pixel of them is read before any is written. The
+    /// rectangles share no pixel, and dx and dy are -2,048 to 2,048. Nothing else changes. It takes six steps a pixel. The
+    /// rectangles are tested first: the first one that doesn't stay on the card is refused as a `Clip` with it, before any
+    /// step, and nothing changes.
+    pub fn carry<L: Ledger>(
+        &mut self,
+        rects: &[ClipRect],
+        dx: i32,
+        dy: i32,
+        steps: &mut Steps<L>,
+    ) -> Result<(), OutsideCard>
+        requires apart { AllPairs AreApart rects.now }
+        requires dx { IsCarry dx }
+        requires dy { IsCarry dy }
+        ensures stay { IsOk result ↔ All (StaysOnCard dx dy self.old) rects.now }
+        ensures shown { OnOk result ((shown : ℕ → ℕ → Rgb) → Shows self.old shown → Shows self.new (carried_by rects.now dx dy shown)) }
+        ensures held { OnOk result ((f : ℕ → ℕ → Pixel) → Holds self.old f → Holds self.new (carried_by rects.now dx dy f)) }
+        ensures others { OnlyCarried self.old self.new }
+        ensures sides { KeepSides self.old self.new }
+        ensures cost { OnOk result (steps.new ≡ steps.old + 6 * pixel_counts rects.now) }
+        ensures off { IfErr result (IsFirstOff dx dy self.old rects.now) }
+        ensures err { OnErr result ((self.new ≡ self.old) × (steps.new ≡ steps.old)) }
+    {
+        self.expect_all_stay(rects, dx, dy)?;
+        self.lifts
+            .carry(rects, dx, dy, &mut self.front, &mut self.target, steps);
+        Ok(())
+    }
+
     /// What the screen shows.
     pub fn front(&self) -> &Plane<Rgb>
         ensures { result.now ≡ self.now.front }
@@ -287,6 +351,15 @@ impl Card {
     {
         &self.registers
     }
+}
+
+// A span from low up to high lies within a side of the card once it is moved.
+fn stays_within(low: u16, high: u16, by: i32, side: u32) -> bool
+    requires by { IsCarry by }
+    requires side { side ≤ 1024 }
+    ensures { IsTrue result ↔ ((pos 0 ≤ℤ (pos low +ℤ by)) × ((pos high +ℤ by) ≤ℤ pos side)) }
+{
+    0 <= i32::from(low) + by && i32::from(high) + by <= side as i32
 }
 
 // The registers of the default state, with nothing bound.
@@ -318,6 +391,7 @@ fn opening<L: Ledger>(alloc: Global, scene: &Scene, blank: Blank) -> Result<Card
     let front = opening_front(alloc, scene, &mut steps)?;
     let target = Target::new(alloc, scene.width, scene.height)?;
     let memory = zeros(alloc, scene.regions as usize * scene.region_size as usize)?;
+    let lifts = Lifts::new(alloc, scene.width * scene.height)?;
     Ok(Card {
         front,
         target,
@@ -329,5 +403,6 @@ fn opening<L: Ledger>(alloc: Global, scene: &Scene, blank: Blank) -> Result<Card
             x2: 0,
             y2: 0,
         },
+        lifts,
     })
 }

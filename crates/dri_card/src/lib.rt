@@ -4,9 +4,13 @@
 
 mod card;
 mod faults;
+mod lifts;
 mod memory;
 mod opening;
 mod target;
 
 pub use card::Card;
 pub use faults::{DispatchFault, LoadFault, OutsideCard};
+pub use lifts::Lifts;
+pub use opening::opening_front;
+pub use target::Target;
