@@ -2,7 +2,7 @@
 use Rattle.std.proofs.Common.{◌≡◌, ℕ, ◌<◌, ◌≤◌, nat_le, nat_lt, Bool, true, false, ◌&&◌, ℤ, pos, negsuc, ◌+ℤ◌, ◌-ℤ◌, ◌≤ℤ◌, int_le, int_lt, refl, sym, ap, ◌∙◌, arith}
 use Rattle.std.proofs.lemmas.Int.{ints}
 use Rattle.std.proofs.lemmas.Bool.Decides.{nat_tests}
-use Rattle.std.proofs.lemmas.Bool.{leb-true}
+use Rattle.std.proofs.lemmas.Bool.{and_parts, leb-true, true≢false}
 use Rattle.dri_base.proofs.Shifts.{le_moved, lt_moved}
 use Rattle.dri_base.specs.declared.scene.Window.{Window}
 use Rattle.dri_base.specs.declared.shape.ClipRect.{ClipRect}
@@ -117,3 +117,20 @@ frame_cut t o frame r y1 y2 holds from to cuts cuts' a b =
         let here : within ≡ true = second _ _ (holds (pos a -ℤ o.x) (pos b -ℤ o.y) e) in
         λ i. (across && (ap (λ w. down && w) here ∙ with_true down) i) && true
     by false e = with_false (across && (down && within)) ∙ sym (with_false (across && down))
+
+-- nothing lies between two ends of which the second isn't behind the first
+nothing_between : (low high x : ℤ) → high ≤ℤ low → (int_le low x && int_lt x high) ≡ false
+nothing_between low high x none = grind (arith, ints)
+
+-- where a frame that holds all that the triangle covers has no column, a rectangle holds as much of it as without its rows
+pub no_columns : (t : Triangle) (o : Point) (frame : Rect) (r : ClipRect) → ((x y : ℤ) → covers t x y ≡ true → in_bounds frame x y ≡ true)
+    → frame.x2 ≤ℤ frame.x1 → HoldSame t o (record { x1 = r.x1; y1 = r.y1; x2 = r.x2; y2 = r.y1 }) r
+no_columns t o frame r holds none a b = by (covers t (pos a -ℤ o.x) (pos b -ℤ o.y)) refl
+  where
+    with_false : (u : Bool) → (u && false) ≡ false
+    with_false true = refl
+    with_false false = refl
+
+    by : (k : Bool) → covers t (pos a -ℤ o.x) (pos b -ℤ o.y) ≡ k → (in_rect (record { x1 = r.x1; y1 = r.y1; x2 = r.x2; y2 = r.y1 }) a b && k) ≡ (in_rect r a b && k)
+    by true e = absurd (true≢false (sym (and_parts (int_le frame.x1 (pos a -ℤ o.x) && int_lt (pos a -ℤ o.x) frame.x2) _ (holds (pos a -ℤ o.x) (pos b -ℤ o.y) e)).0 ∙ nothing_between frame.x1 frame.x2 (pos a -ℤ o.x) none))
+    by false e = with_false (in_rect (record { x1 = r.x1; y1 = r.y1; x2 = r.x2; y2 = r.y1 }) a b) ∙ sym (with_false (in_rect r a b))

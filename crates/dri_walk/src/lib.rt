@@ -1,4 +1,5 @@
-//! How a card draws a triangle: what the registers decide is decided once, the rows that hold something of the triangle are
+//! How a card draws a triangle: what the registers decide is decided once, but for the depth test and the depth write, and a
+//! texture's format and wrapping, which are values asked at each pixel. The rows that hold something of the triangle are
 //! walked by spans, and along a span the quantities are stepped. What is drawn on is any surface of pairs of a colour and a
 //! depth.
 #![tactic(auto)]

@@ -100,7 +100,7 @@ impl<'a> Drawing<'a> {
     }
 }
 
-/// The rows of a rectangle between the triangle's corners.
+/// The rows of a rectangle between the triangle's corners; none where no column's centres lie between them.
 fn framed(setup: &Setup, rect: &ClipRect, origin: Point) -> ClipRect
     requires x { IsPlace origin.x }
     requires y { IsPlace origin.y }
@@ -113,6 +113,12 @@ fn framed(setup: &Setup, rect: &ClipRect, origin: Point) -> ClipRect
     ensures top { rect.now.y1 ≤ result.y1 }
 {
     let frame = setup.frame();
+    if frame.x2 <= frame.x1 {
+        return ClipRect {
+            y2: rect.y1,
+            ..*rect
+        };
+    }
     let y1 = nearest(frame.y1 + origin.y, rect.y1, rect.y2);
     ClipRect {
         x1: rect.x1,

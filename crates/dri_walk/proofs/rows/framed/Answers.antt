@@ -1,7 +1,10 @@
 -- The rows are cut to those between the corners.
 use Rattle.std.proofs.Common.{◌+ℤ◌, rules}
-use Rattle.dri_walk.proofs.CutRects.{Cuts, frame_cut}
+use Rattle.dri_walk.proofs.CutRects.{Cuts, frame_cut, no_columns}
 use Rattle.dri_walk.proofs.rows.framed.Goals as goal
+
+pub returns-then-frame-clause-same : goal.returns-then-frame-clause-same
+returns-then-frame-clause-same c = no_columns c.args.setup.now c.args.origin c.frame-frame.result c.args.rect.now c.frame-frame.ensures.holds (search rules)
 
 pub returns-clause-same : goal.returns-clause-same
 returns-clause-same c =
