@@ -33,7 +33,7 @@ so_far xs ys i x y before a b e k below = elim (cases_eq k i) [
 ]
 
 -- tests of all numbers below
-below_true : (p : ℕ → Bool) (n : ℕ) → ((k : ℕ) → k < n → p k ≡ true) → all_below p n ≡ true
+pub below_true : (p : ℕ → Bool) (n : ℕ) → ((k : ℕ) → k < n → p k ≡ true) → all_below p n ≡ true
 below_true p zero f = refl
 below_true p (suc n) f = rw (f n (omega arith)) (below_true p n (λ k b. f k (omega arith)))
 
@@ -62,7 +62,7 @@ sets_same width height f g h = below_true (λ x. all_below (λ y. same_bool (f x
 sets_each : (width height : ℕ) (f g : ℕ → ℕ → Bool) → same_set width height f g ≡ true → (x y : ℕ) → x < width → y < height → f x y ≡ g x y
 sets_each width height f g e x y a b = bool_each (f x y) (g x y) (below_each (λ v. same_bool (f x v) (g x v)) height (below_each (λ u. all_below (λ v. same_bool (f u v) (g u v)) height) width e x a) y b)
 
-decided : (r t : Bool) → (r ≡ true → t ≡ true) → (t ≡ true → r ≡ true) → r ≡ t
+pub decided : (r t : Bool) → (r ≡ true → t ≡ true) → (t ≡ true → r ≡ true) → r ≡ t
 decided true t f g = sym (f refl)
 decided false true f g = g refl
 decided false false f g = refl

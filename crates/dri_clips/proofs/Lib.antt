@@ -11,5 +11,7 @@ pub mod Stamping
 -- paints
 pub mod Painting
 pub mod Gaining
+-- what comes along of a moved window
+pub mod Carrying
 -- the board, and what it tells
 pub mod Telling

@@ -1,6 +1,6 @@
 -- Paints, region by region.
 use Rattle.std.proofs.Common.{◌≡◌, ℕ, zero, suc, ◌<◌, ◌≤◌, ◌+◌, ◌-◌, length, get_or, take, map, List, [], ◌∷◌, ◌++◌, Bool, true, false, arith, refl, sym, ◌∙◌, ap, subst, Option, None, Some, slice_get, is_some, is_none, inl, inr}
-use Rattle.std.specs.Prelude.{ℤ, pos, negsuc, ◌≤ℤ◌, ◌<ℤ◌, ◌-ℤ◌, ◌&&◌, ◌||◌, not, nat_lt, nat_le, int_lt, int_le, ◌==◌, if◌then◌else◌, unsigned_abs, All, AllPairs}
+use Rattle.std.specs.Prelude.{ℤ, pos, negsuc, ◌≤ℤ◌, ◌<ℤ◌, ◌+ℤ◌, ◌-ℤ◌, ◌&&◌, ◌||◌, not, nat_lt, nat_le, int_lt, int_le, ◌==◌, if◌then◌else◌, unsigned_abs, All, AllPairs}
 use Rattle.std.specs.List.{AllByRecursion}
 use Rattle.std.proofs.lemmas.Bool.{true≢false, cases_lt, and_parts, eq-eqb, ltb-true}
 use Rattle.std.proofs.lemmas.Int.{ints}
@@ -12,12 +12,12 @@ use Rattle.dri_base.specs.declared.colour.Rgb.{Rgb}
 use Rattle.dri_base.specs.declared.scene.Window.{Window}
 use Rattle.dri_base.specs.declared.shape.Rect.{Rect}
 use Rattle.dri_rect.specs.Pixels.{IsApart, IsProper, inside, has_pixel}
-use Rattle.dri_model.specs.Stacks.{ground_colour, is_window, same_top, top, window_has}
+use Rattle.dri_model.specs.Stacks.{ground_colour, is_window, top, window_has}
 use Rattle.dri_clips.specs.declared.touched.Paint.{Paint}
 use Rattle.dri_clips.specs.Gains.{AreOnScreen, IsRectOnScreen, clip_rect, paint_of}
 use Rattle.dri_clips.specs.Layouts.{AreDistinct, IsAbsent, screen_rect}
 use Rattle.dri_base.specs.Planes.{in_rect}
-use Rattle.dri_clips.specs.Paints.{AreApart, IsOnScreen, paint_at}
+use Rattle.dri_clips.specs.Paints.{AreApart, IsOnScreen, StaysOnScreen, in_rects, paint_at}
 use Rattle.dri_clips.proofs.Placing.{eq_sym, take_one}
 use Rattle.dri_clips.proofs.Walking.{never_top, top_pixel, on_screen}
 
@@ -39,7 +39,7 @@ abs_le : (a : ℤ) (n : ℕ) → pos 0 ≤ℤ a → a ≤ℤ pos n → unsigned_
 abs_le (pos a) n h l = omega (arith, ints, l)
 abs_le (negsuc a) n h l = absurd (omega (arith, ints, h))
 
-clip_has : (width height : ℕ) (r : Rect) → IsRectOnScreen width height r → (x y : ℕ) → in_rect (clip_rect r) x y ≡ has_pixel r (pos x) (pos y)
+pub clip_has : (width height : ℕ) (r : Rect) → IsRectOnScreen width height r → (x y : ℕ) → in_rect (clip_rect r) x y ≡ has_pixel r (pos x) (pos y)
 clip_has width height r o x y =
     let right : pos 0 ≤ℤ r.x2 = omega (arith, ints, o.left, o.start) in
     let low : pos 0 ≤ℤ r.y2 = omega (arith, ints, o.top, o.head) in
@@ -187,66 +187,92 @@ top_here (v ∷ ws) (suc k) w e x y n c = by (v.mapped && window_has v x y) n (�
     by true m f = absurd (true≢false (sym m))
     by false m f = f m
 
--- one pixel's paint, after one window more
-abbrev pub wanted : Rgb → Option Window → Option Window → Option Rgb
-wanted root o t = if same_top o t then None else Some (ground_colour root t)
+-- one pixel's paint, after one window more: nothing where what was there is kept
+abbrev pub wanted : Rgb → Bool → Option Window → Option Rgb
+wanted root kept t = if kept then None else Some (ground_colour root t)
 
-abbrev pub partly : Rgb → Option Window → Option Window → Option Window → Option Rgb
-partly root o t u = if is_none t || is_some u then wanted root o t else None
+abbrev pub partly : Rgb → Bool → Option Window → Option Window → Option Rgb
+partly root kept t u = if is_none t || is_some u then wanted root kept t else None
 
 else_none : (a : Option Rgb) → or_else a None ≡ a
 else_none None = refl
 else_none (Some a) = refl
 
-pub step : (root : Rgb) (o t u : Option Window) (w : Window) (cover : Bool) → is_window w.number t ≡ (is_none u && cover) → (is_none u ≡ true → cover ≡ true → t ≡ Some w) →
-    or_else (partly root o t u) (if is_window w.number t && not (is_window w.number o) then Some w.background else None) ≡ partly root o t (if is_some u then u else (if cover then Some w else None))
-step root o t (Some v) w cover e f = rw e (else_none (partly root o t (Some v)))
-step root o t None w false e f = rw e (else_none (partly root o t None))
-step root o t None w true e f = rw (f refl refl, eq-eqb w.number w.number refl) (by o)
+pub step : (root : Rgb) (kept : Bool) (t u : Option Window) (w : Window) (cover : Bool) → is_window w.number t ≡ (is_none u && cover) → (is_none u ≡ true → cover ≡ true → t ≡ Some w) →
+    or_else (partly root kept t u) (if is_window w.number t && not kept then Some w.background else None) ≡ partly root kept t (if is_some u then u else (if cover then Some w else None))
+step root kept t (Some v) w cover e f = rw e (else_none (partly root kept t (Some v)))
+step root kept t None w false e f = rw e (else_none (partly root kept t None))
+step root kept t None w true e f = rw (f refl refl, eq-eqb w.number w.number refl) (flip kept)
   where
-    by : (p : Option Window) → (if not (is_window w.number p) then Some w.background else None) ≡ (if same_top p (Some w) then None else Some w.background)
-    by None = refl
-    by (Some a) = flip (a.number == w.number)
-      where
-        flip : (b : Bool) → (if not b then Some w.background else None) ≡ (if b then None else Some w.background)
-        flip true = refl
-        flip false = refl
+    flip : (b : Bool) → (if not b then Some w.background else None) ≡ (if b then None else Some w.background)
+    flip true = refl
+    flip false = refl
 
--- where window w gains a pixel, nothing was painted yet
-pub nothing_yet : (root : Rgb) (o t u : Option Window) (w : Window) (cover : Bool) → is_window w.number t ≡ (is_none u && cover) → is_window w.number t ≡ true → partly root o t u ≡ None
-nothing_yet root o None u w cover e h = absurd (true≢false (sym h))
-nothing_yet root o (Some v) None w cover e h = refl
-nothing_yet root o (Some v) (Some z) w cover e h = absurd (true≢false (sym h ∙ e))
+-- where window w is painted, nothing was painted yet
+pub nothing_yet : (root : Rgb) (kept : Bool) (t u : Option Window) (w : Window) (cover : Bool) → is_window w.number t ≡ (is_none u && cover) → is_window w.number t ≡ true → partly root kept t u ≡ None
+nothing_yet root kept None u w cover e h = absurd (true≢false (sym h))
+nothing_yet root kept (Some v) None w cover e h = refl
+nothing_yet root kept (Some v) (Some z) w cover e h = absurd (true≢false (sym h ∙ e))
+
+-- the rectangles of a region, as the card takes them
+pub card_rect : (width height : ℕ) (rs : List Rect) → AllByRecursion IsProper rs → AreOnScreen width height rs → (k : ℕ) (d : Rect) → k < length rs → IsOnScreen width height (clip_rect (get_or rs k d))
+card_rect width height rs proper on k d b =
+    let o = rects_on width height rs proper on k d b in
+    let p = proper_at rs k (get_or rs k d) (get_some rs k d b) proper in
+    let right : pos 0 ≤ℤ (get_or rs k d).x2 = omega (arith, ints, o.left, o.start) in
+    let low : pos 0 ≤ℤ (get_or rs k d).y2 = omega (arith, ints, o.top, o.head) in
+    record {
+      across = abs_lt (get_or rs k d).x1 (get_or rs k d).x2 o.left p.across;
+      down = abs_lt (get_or rs k d).y1 (get_or rs k d).y2 o.top p.down;
+      right = abs_le (get_or rs k d).x2 width right o.right;
+      bottom = abs_le (get_or rs k d).y2 height low o.bottom;
+    }
+
+-- and once their pixels are moved, which then lie on the screen too
+abs_same : (z : ℤ) → pos 0 ≤ℤ z → pos (unsigned_abs z) ≡ z
+abs_same (pos a) h = refl
+abs_same (negsuc a) h = absurd (omega (arith, ints, h))
+
+pub card_rect_stays : (width height : ℕ) (dx dy : ℤ) (rs : List Rect) → AllByRecursion IsProper rs → AreOnScreen width height rs → ((x y : ℤ) → inside rs x y ≡ true → has_pixel (screen_rect width height) (x +ℤ dx) (y +ℤ dy) ≡ true) →
+    (k : ℕ) (d : Rect) → k < length rs → StaysOnScreen dx dy width height (clip_rect (get_or rs k d))
+card_rect_stays width height dx dy rs proper on stays k d b =
+    let o = rects_on width height rs proper on k d b in
+    let p = proper_at rs k (get_or rs k d) (get_some rs k d b) proper in
+    let first = place width height ((get_or rs k d).x1 +ℤ dx) ((get_or rs k d).y1 +ℤ dy) (stays _ _ (member rs k (get_or rs k d) _ _ (get_some rs k d b) (first_corner (get_or rs k d) p))) in
+    let last = place width height ((get_or rs k d).x2 -ℤ pos 1 +ℤ dx) ((get_or rs k d).y2 -ℤ pos 1 +ℤ dy) (stays _ _ (member rs k (get_or rs k d) _ _ (get_some rs k d b) (last_corner (get_or rs k d) p))) in
+    let right : pos 0 ≤ℤ (get_or rs k d).x2 = omega (arith, ints, o.left, o.start) in
+    let low : pos 0 ≤ℤ (get_or rs k d).y2 = omega (arith, ints, o.top, o.head) in
+    record {
+      before = card_rect width height rs proper on k d b;
+      left = rw (abs_same (get_or rs k d).x1 o.left) first.left;
+      right = rw (abs_same (get_or rs k d).x2 right) (omega (arith, ints, last.right));
+      top = rw (abs_same (get_or rs k d).y1 o.top) first.top;
+      bottom = rw (abs_same (get_or rs k d).y2 low) (omega (arith, ints, last.bottom));
+    }
+
+pub card_rects_have : (width height : ℕ) (rs : List Rect) → ((k : ℕ) (d : Rect) → k < length rs → IsRectOnScreen width height (get_or rs k d)) → (x y : ℕ) → in_rects (map clip_rect rs) x y ≡ inside rs (pos x) (pos y)
+card_rects_have width height [] on x y = refl
+card_rects_have width height (r ∷ rs) on x y = rw (clip_has width height r (on 0 r (omega arith)) x y, card_rects_have width height rs (λ k d b. on (suc k) d (omega arith)) x y) refl
+
+pub card_rects_apart : (width height : ℕ) (rs : List Rect) → AllPairs IsApart rs → AllByRecursion IsProper rs → AreOnScreen width height rs → (i j : ℕ) (d : Rect) → i < j → j < length rs → AreApart (clip_rect (get_or rs i d)) (clip_rect (get_or rs j d))
+card_rects_apart width height rs apart proper on i j d up below x y =
+    rw (clip_has width height (get_or rs i d) (rects_on width height rs proper on i d (omega arith)) x y, clip_has width height (get_or rs j d) (rects_on width height rs proper on j d below) x y)
+    (apart i j d up below (pos x) (pos y))
 
 -- the paints of a region
 pub paint_region_each : (width height : ℕ) (colour : Rgb) (rs : List Rect) → AllByRecursion IsProper rs → AreOnScreen width height rs → All (λ p. IsOnScreen width height p.rect) (map (paint_of colour) rs)
-paint_region_each width height colour rs proper on = All-map (λ p. IsOnScreen width height p.rect) (paint_of colour) rs (λ k d b. each k d b)
-  where
-    each : (k : ℕ) (d : Rect) → k < length rs → IsOnScreen width height (clip_rect (get_or rs k d))
-    each k d b =
-        let o = rects_on width height rs proper on k d b in
-        let p = proper_at rs k (get_or rs k d) (get_some rs k d b) proper in
-        let right : pos 0 ≤ℤ (get_or rs k d).x2 = omega (arith, ints, o.left, o.start) in
-        let low : pos 0 ≤ℤ (get_or rs k d).y2 = omega (arith, ints, o.top, o.head) in
-        record {
-          across = abs_lt (get_or rs k d).x1 (get_or rs k d).x2 o.left p.across;
-          down = abs_lt (get_or rs k d).y1 (get_or rs k d).y2 o.top p.down;
-          right = abs_le (get_or rs k d).x2 width right o.right;
-          bottom = abs_le (get_or rs k d).y2 height low o.bottom;
-        }
+paint_region_each width height colour rs proper on = All-map (λ p. IsOnScreen width height p.rect) (paint_of colour) rs (λ k d b. card_rect width height rs proper on k d b)
 
-no_rect : Rect
+pub no_rect : Rect
 no_rect = record { x1 = pos 0; y1 = pos 0; x2 = pos 0; y2 = pos 0 }
 
 mapped_get : (colour : Rgb) (rs : List Rect) (i : ℕ) (d : Paint) → i < length rs → get_or (map (paint_of colour) rs) i d ≡ paint_of colour (get_or rs i no_rect)
 mapped_get colour rs i d b = get_or-map (paint_of colour) rs i no_rect d b
 
-pub paint_region_apart : (width height : ℕ) (colour : Rgb) (rs : List Rect) → AllPairs IsApart rs → AllByRecursion IsProper rs → AreOnScreen width height rs → AllPairs AreApart (map (paint_of colour) rs)
+pub paint_region_apart : (width height : ℕ) (colour : Rgb) (rs : List Rect) → AllPairs IsApart rs → AllByRecursion IsProper rs → AreOnScreen width height rs → AllPairs (λ p q. AreApart p.rect q.rect) (map (paint_of colour) rs)
 paint_region_apart width height colour rs apart proper on i j d up below =
     let room = length-map rs (paint_of colour) in
-    rw (mapped_get colour rs i d (omega arith), mapped_get colour rs j d (omega arith)) (λ x y.
-    rw (clip_has width height (get_or rs i no_rect) (rects_on width height rs proper on i no_rect (omega arith)) x y, clip_has width height (get_or rs j no_rect) (rects_on width height rs proper on j no_rect (omega arith)) x y)
-    (apart i j no_rect up (omega arith) (pos x) (pos y)))
+    rw (mapped_get colour rs i d (omega arith), mapped_get colour rs j d (omega arith)) (card_rects_apart width height rs apart proper on i j no_rect up (omega arith))
 
 -- a painted pixel is on the screen and in the region
 pub region_painted : (width height : ℕ) (colour : Rgb) (rs : List Rect) → AllByRecursion IsProper rs → AreOnScreen width height rs → (m : ℕ) (d : Paint) (x y : ℕ) → m < length (map (paint_of colour) rs) → in_rect (get_or (map (paint_of colour) rs) m d).rect x y ≡ true →
@@ -265,3 +291,6 @@ pub paint_more : (colour : Rgb) (rs : List Rect) (i j : ℕ) (r : Rect) (q : Cli
 paint_more colour rs i j r q first ps ns e at is before after =
     after ∙ (λ k. before k ++ (record { rect = is k; colour = colour }) ∷ []) ∙ append_assoc first (map (paint_of colour) (take i rs)) (paint_of colour r ∷ [])
     ∙ ap (λ (ms : List Paint). first ++ ms) (sym (map-append (paint_of colour) (take i rs) (r ∷ [])) ∙ ap (map (paint_of colour)) (sym (take_one rs i j r e at)))
+
+pub card_more : (rs : List Rect) (i j : ℕ) (r : Rect) (q : ClipRect) (qs ns : List ClipRect) → j ≡ i + 1 → slice_get rs i ≡ Some r → q ≡ clip_rect r → qs ≡ map clip_rect (take i rs) → ns ≡ qs ++ q ∷ [] → ns ≡ map clip_rect (take j rs)
+card_more rs i j r q qs ns e at is before after = after ∙ (λ k. before k ++ is k ∷ []) ∙ sym (map-append clip_rect (take i rs) (r ∷ [])) ∙ ap (map clip_rect) (sym (take_one rs i j r e at))

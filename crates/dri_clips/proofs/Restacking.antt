@@ -15,7 +15,7 @@ use Rattle.dri_base.specs.Scenes.{named_by}
 use Rattle.dri_model.specs.Stacks.{Refusal, altered, changed, refusal, refused_at, refused_for, stack_after, unless_refused, window_in, without_owner, unmapped}
 use Rattle.dri_clips.specs.Areas.{is_reached, meets_window, named_in, others, reached, reached_after}
 use Rattle.dri_clips.specs.Boards.{is_mapped}
-use Rattle.dri_clips.specs.Mends.{mending_cost}
+use Rattle.dri_clips.specs.Mends.{mending_cost, moving_cost}
 use Rattle.dri_clips.specs.Layouts.{AreDistinct, IsAbsent, IsPlaced, SameNumbers, window_rect}
 use Rattle.dri_clips.specs.Refusals.{altered_by, destination}
 use Rattle.dri_clips.proofs.Areas.{count_weaker}
@@ -395,8 +395,8 @@ after_reached : (named : Window → Bool) (old new : List Window) → reached_af
 after_reached named old new = count_weaker (λ w. w.mapped && is_reached named old new w) (is_reached named old new) (λ w e. (and_parts w.mapped (is_reached named old new w) e).1) new
 
 -- what a change costs, and what a death
-pub change_cost : (n : ℕ) (old new : List Window) (start after : ℕ) → AreDistinct old → AreDistinct new → after ≤ start + mending_cost (λ w. w.number == n) old new → after ≤ start + (8 * reached (λ w. w.number == n) old new + 16)
+pub change_cost : (n : ℕ) (old new : List Window) (start after : ℕ) → AreDistinct old → AreDistinct new → after ≤ start + (mending_cost (λ w. w.number == n) old new + moving_cost) → after ≤ start + (8 * reached (λ w. w.number == n) old new + 16)
 change_cost n old new start after a b e = let f = one_named n old a in let g = one_named n new b in let h = after_reached (λ w. w.number == n) old new in omega (arith, e, f, g, h)
 
-pub death_cost : (c : ℕ) (old : List Window) (start after : ℕ) → AreDistinct old → after ≤ start + mending_cost (λ w. w.owner == c) old (without_owner c old) → after ≤ start + (8 * reached (λ w. w.owner == c) old (without_owner c old) + 16)
+pub death_cost : (c : ℕ) (old : List Window) (start after : ℕ) → AreDistinct old → after ≤ start + (mending_cost (λ w. w.owner == c) old (without_owner c old) + moving_cost) → after ≤ start + (8 * reached (λ w. w.owner == c) old (without_owner c old) + 16)
 death_cost c old start after a e = let f = dead_reached c old a in let g = dead_unmapped c old in omega (arith, e, f, g)

@@ -3,6 +3,7 @@ pub mod Boards
 pub mod Gains
 pub mod Layouts
 pub mod Mends
+pub mod Motions
 pub mod Paints
 pub mod Refusals
 pub mod SceneBoards

@@ -78,6 +78,10 @@ pub record AreMended (old : Layout) (new : List Window) (m : Mended) : Type 0 wh
 abbrev pub mending_cost : (Window → Bool) → List Window → List Window → ℕ
 mending_cost named old new = 7 * reached_after named old new + (2 * (length (named_in named old) + length (named_in named new)) + 4)
 
+-- how many what comes along of a moved window takes beside these
+abbrev pub moving_cost : ℕ
+moving_cost = 4
+
 -- the new list, if there is one, or the list that stands
 abbrev pub list_or : Option Patch → List Rect → List Rect
 list_or None was = was

@@ -1,21 +1,22 @@
 //! The board. It keeps the window stack, a clip list for each window, and a stamp for each window number.
 
-ghost use Rattle.std.specs.Prelude.{ℕ, ◌≡◌, ◌≤◌, ◌+◌, ◌*◌, ◌↔◌, None, Some, Err, IfOk, IfSome, OnOk, OnErr, All, Contains};
+ghost use Rattle.std.specs.Prelude.{ℕ, ◌≡◌, ◌≤◌, ◌<◌, ◌+◌, ◌*◌, ◌↔◌, None, Some, Err, IfOk, IfSome, OnOk, OnErr, All, Contains};
 ghost use Rattle.dri_base.specs.declared.command.Change.{Change};
 ghost use Rattle.dri_base.specs.Ranges.{InRange, WindowInRange, WindowsInRange, window_numbers};
 ghost use Rattle.dri_base.specs.Limits.{last_stamp};
-ghost use Rattle.dri_model.specs.Stacks.{Refusal, origin, refusal, stack_after, touches, window_in, without_owner};
+ghost use Rattle.dri_model.specs.Stacks.{Refusal, moved_by, origin, refusal, stack_after, touches, window_in, without_owner};
 ghost use Rattle.dri_clips.specs.declared.change.ChangeFault.TheVariants.{NoWindow, OutOfRange, AlreadyMapped, NotMapped};
 ghost use Rattle.dri_clips.specs.Areas.{is_named, is_owned, names, others, reached};
 ghost use Rattle.dri_clips.specs.Boards.{AreClipsOf, IsOpening, IsRestacked, is_mapped, stamps_of};
 ghost use Rattle.dri_clips.specs.Layouts.{SameNumbers};
-ghost use Rattle.dri_clips.specs.Mends.{mending_cost};
+ghost use Rattle.dri_clips.specs.Mends.{mending_cost, moving_cost};
 ghost use Rattle.dri_clips.specs.Paints.{IsTouched};
 
 use crate::cause::Cause;
-use crate::change::{place_to_change, stack_after, without_owner};
+use crate::change::{moved, place_to_change, stack_after, without_owner};
 use crate::layout::Layout;
 use crate::mending::mend;
+use crate::moving::{carry_of, follow, moves_whole};
 use crate::paints::paints;
 use crate::stack::Stack;
 use crate::stamps::restamp;
@@ -62,16 +63,18 @@ impl Board {
         alloc: Global,
         cause: &Cause,
         stack: Stack,
+        moved: Option<u32>,
         steps: &mut Steps<L>,
     ) -> Result<Touched, OutOfMemory>
         requires counter { self.old.counter ≤ last_stamp }
         requires ranged { All WindowInRange stack }
         requires numbers { SameNumbers self.old.stack stack }
         requires others { others (names cause.now) self.old.stack ≡ others (names cause.now) stack }
+        requires moved { IfSome moved (λ window. window < 65) }
         ensures ok { OnOk result (IsRestacked stack self.old self.new) }
-        ensures touched { IfOk result (IsTouched self.old stack) }
+        ensures touched { IfOk result (IsTouched self.old stack moved) }
         ensures err { OnErr result (self.new ≡ self.old) }
-        ensures steps { steps.new ≤ steps.old + mending_cost (names cause.now) self.old.stack stack }
+        ensures steps { steps.new ≤ steps.old + (mending_cost (names cause.now) self.old.stack stack + moving_cost) }
     {
         let mended = mend(alloc, cause, &self.layout, &stack, steps)?;
         let new = restamp(
@@ -82,14 +85,18 @@ impl Board {
             &self.stamps,
             self.counter,
         )?;
-        let paints = paints(alloc, self.root, &self.layout, &stack, &mended)?;
+        let motion = follow(alloc, moved, &self.layout, &stack, &mended, steps)?;
+        let carry = carry_of(alloc, &motion)?;
+        let paints = paints(alloc, self.root, &self.layout, &stack, &mended, &motion)?;
         self.layout.put(stack, mended);
         let stamps = new.stamps;
         self.stamps = stamps;
         self.counter = new.counter;
         Ok(Touched {
             windows: new.touched,
+            carry,
             paints,
+            whole: moves_whole(&motion),
         })
     }
 
@@ -105,7 +112,7 @@ impl Board {
         requires { self.old.counter ≤ last_stamp }
         ensures allowed { OnOk result (refusal change.now self.old.stack ≡ None) }
         ensures ok { OnOk result (IsRestacked (stack_after change.now self.old.stack) self.old self.new) }
-        ensures touched { IfOk result (IsTouched self.old (stack_after change.now self.old.stack)) }
+        ensures touched { IfOk result (IsTouched self.old (stack_after change.now self.old.stack) (moved_by change.now self.old.stack)) }
         ensures no_window { (result ≡ Err NoWindow) ↔ (refusal change.now self.old.stack ≡ Some Refusal.NoWindow) }
         ensures out_of_range { (result ≡ Err OutOfRange) ↔ (refusal change.now self.old.stack ≡ Some Refusal.OutOfRange) }
         ensures already_mapped { (result ≡ Err AlreadyMapped) ↔ (refusal change.now self.old.stack ≡ Some Refusal.AlreadyMapped) }
@@ -118,7 +125,7 @@ impl Board {
         let stack = stack_after(&self.layout.stack, at, change)?;
         stack.arranged();
         let cause = Cause::Window(change.window());
-        Ok(self.restack(alloc, &cause, stack, steps)?)
+        Ok(self.restack(alloc, &cause, stack, moved(change), steps)?)
     }
 
     /// Unmaps each window of an owner, as one change, and tells what it touched. Where memory is wanting the board stays
@@ -131,12 +138,12 @@ impl Board {
     ) -> Result<Touched, OutOfMemory>
         requires { self.old.counter ≤ last_stamp }
         ensures ok { OnOk result (IsRestacked (without_owner owner self.old.stack) self.old self.new) }
-        ensures touched { IfOk result (IsTouched self.old (without_owner owner self.old.stack)) }
+        ensures touched { IfOk result (IsTouched self.old (without_owner owner self.old.stack) None) }
         ensures err { OnErr result (self.new ≡ self.old) }
         ensures steps { steps.new ≤ steps.old + (8 * reached (is_owned owner) self.old.stack (without_owner owner self.old.stack) + 16) }
     {
         let stack = without_owner(&self.layout.stack, owner)?;
-        self.restack(alloc, &Cause::Owner(owner), stack, steps)
+        self.restack(alloc, &Cause::Owner(owner), stack, None, steps)
     }
 
     /// The stamp of a window that is on the board.

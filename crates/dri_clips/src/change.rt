@@ -2,7 +2,7 @@
 
 ghost use Rattle.std.specs.Prelude.{◌≡◌, ◌&&◌, None, true, false, IfOk, OnOk, IfErr};
 ghost use Rattle.dri_base.specs.Scenes.{named_by};
-ghost use Rattle.dri_model.specs.Stacks.{changed, refusal, refused_at, stack_after, unmapped, without_owner};
+ghost use Rattle.dri_model.specs.Stacks.{changed, moves, refusal, refused_at, stack_after, unmapped, without_owner};
 ghost use Rattle.dri_clips.specs.declared.change.ChangeFault.TheVariants.{OutOfMemory};
 ghost use Rattle.dri_clips.specs.Layouts.{IsPlaced};
 ghost use Rattle.dri_clips.specs.Refusals.{IsRefused, altered_by, destination};
@@ -93,6 +93,16 @@ pub fn place_to_change(stack: &Stack, change: &Change) -> Result<usize, ChangeFa
     };
     allow_change(change, &stack.window(at))?;
     Ok(at)
+}
+
+/// The window that a change is to move, if it is a move.
+pub fn moved(change: &Change) -> Option<u32>
+    ensures { result ≡ moves change.now }
+{
+    match *change {
+        Change::Move { window, x: _, y: _ } => Some(window),
+        _ => None,
+    }
 }
 
 /// The window after a change of it.

@@ -1,17 +1,19 @@
 //! What is painted in front under a new stack: where the topmost window changed, the new one's background, or the root
-//! colour.
+//! colour. Of a window that moves all is painted that doesn't come along.
 
-ghost use Rattle.std.specs.Prelude.{◌≡◌, ◌++◌, map, All, AllPairs, IfOk, OnOk};
+ghost use Rattle.std.specs.Prelude.{◌≡◌, ◌++◌, map, All, AllPairs, IfOk, IfSome, OnOk};
 ghost use Rattle.std.specs.List.{AllByRecursion};
 ghost use Rattle.dri_base.specs.Ranges.{WindowInRange};
 ghost use Rattle.dri_rect.specs.Pixels.{IsApart, IsProper};
 ghost use Rattle.dri_clips.specs.Gains.{AreOnScreen, IsRectOnScreen, clip_rect, paint_of};
 ghost use Rattle.dri_clips.specs.Layouts.{IsLayout};
 ghost use Rattle.dri_clips.specs.Mends.{AreMended};
+ghost use Rattle.dri_clips.specs.Motions.{IsMotion, moved_in};
 ghost use Rattle.dri_clips.specs.Paints.{ArePaints};
 
 use crate::layout::Layout;
 use crate::mending::Mended;
+use crate::moving::{Motion, repainted};
 use crate::stack::Stack;
 use crate::{Paint, Paints};
 use dri_base::{ClipRect, OutOfMemory, Rect, Rgb};
@@ -55,18 +57,21 @@ pub fn paints(
     old: &Layout,
     new: &Stack,
     mended: &Mended,
+    motion: &Option<Motion>,
 ) -> Result<Paints, OutOfMemory>
     requires layout { IsLayout old.now }
     requires ranged { All WindowInRange new.now }
     requires mended { AreMended old.now new.now mended.now }
-    ensures { IfOk result (ArePaints old.now.width old.now.height root old.now.stack new.now) }
+    requires motion { IfSome motion.now (IsMotion old.now.width old.now.height old.now.stack new.now) }
+    ensures { IfOk result (ArePaints old.now.width old.now.height root old.now.stack new.now (moved_in motion.now)) }
 {
     let mut paints = Paints::new(alloc);
     paint_region(&mut paints, &mended.root.gained, root)?;
     for at in 0..new.len() {
         let window = new.window(at);
         if let Some(patch) = &mended.windows[window.number as usize] {
-            paint_region(&mut paints, &patch.gained, window.background)?;
+            let bare = repainted(motion, window.number, &patch.gained);
+            paint_region(&mut paints, bare, window.background)?;
         }
     }
     Ok(paints)

@@ -1,13 +1,15 @@
-use Rattle.std.proofs.Common.{◌≡◌, ◌≤◌, ◌+◌, ◌*◌, ◌∙◌, ℕ, List, None, ap, sym, subst}
+use Rattle.std.proofs.Common.{◌≡◌, ◌≤◌, ◌<◌, ◌+◌, ◌*◌, ◌∙◌, ℕ, List, None, ap, sym, subst}
 use Rattle.std.specs.Prelude.{All, IfSome, Option, ◌==◌}
 use Rattle.std.proofs.lemmas.Result.{err_from_is_err_and}
 use Rattle.dri_base.specs.declared.scene.Window.{Window}
 use Rattle.dri_base.specs.Ranges.{WindowInRange}
 use Rattle.dri_base.specs.Scenes.{named_by}
-use Rattle.dri_model.specs.Stacks.{Refusal, refusal, stack_after}
+use Rattle.dri_model.specs.Stacks.{Refusal, moved_by, moves, moves_unless, refusal, stack_after}
 use Rattle.dri_clips.specs.Areas.{others, reached}
 use Rattle.dri_clips.specs.Boards.{IsRestacked, Screen}
 use Rattle.dri_clips.specs.Layouts.{AreDistinct, SameNumbers}
+use Rattle.dri_clips.specs.Paints.{IsTouched}
+use Rattle.dri_clips.proofs.Carrying.{moves_low, placed_low}
 use Rattle.dri_clips.proofs.Restacking.{after_numbers, after_ranged, change_cost, others_after}
 use Rattle.dri_clips.proofs.Telling.{done_so, memory_so}
 use Rattle.dri_clips.proofs.board.Board.apply.Goals as goal
@@ -117,3 +119,14 @@ pub returns-clause-refused : goal.returns-clause-refused
 returns-clause-refused g c =
     let none : refusal c.args.change.now c.args.self.now.stack ≡ None = rw (← c.self.view_is) c.in_ok-at.ensures.ok in
     subst (λ (o : Option Refusal). IfSome o (λ _. c.restack.new.steps ≡ c.args.steps.now)) (sym none) tt
+
+pub restack-requires-clause-moved : goal.restack-requires-clause-moved
+restack-requires-clause-moved g c =
+    subst (λ (o : Option ℕ). IfSome o (λ window. window < 65)) (sym c.moved.ensures) (moves_low c.args.change.now (placed_low (named_by c.args.change.now) c.in_ok-at.at c.self.inside.layout.stack c.in_ok-at.ensures.place c.self.invariant.0.ranged))
+
+pub returns-clause-touched : goal.returns-clause-touched
+returns-clause-touched g c =
+    let none : refusal c.args.change.now c.args.self.now.stack ≡ None = rw (← c.self.view_is) c.in_ok-at.ensures.ok in
+    let moved : c.moved.result ≡ moved_by c.args.change.now c.args.self.now.stack = c.moved.ensures ∙ ap (λ (why : Option Refusal). moves_unless why (moves c.args.change.now)) (sym none) in
+    subst (λ (o : Option ℕ). IsTouched c.args.self.now (stack_after c.args.change.now c.args.self.now.stack) o c.in_ok-restack.field-0) moved
+    (subst (λ (ws : List Window). IsTouched c.args.self.now ws c.moved.result c.in_ok-restack.field-0) (c.in_ok-stack.ensures ∙ ap (λ (v : Screen). stack_after c.args.change.now v.stack) c.self.view_is) c.in_ok-restack.ensures.touched)

@@ -4,7 +4,7 @@ use Rattle.dri_base.specs.declared.scene.Window.{Window}
 use Rattle.dri_base.specs.Ranges.{WindowInRange}
 use Rattle.dri_model.specs.Stacks.{without_owner}
 use Rattle.dri_clips.specs.Areas.{others}
-use Rattle.dri_clips.specs.Mends.{mending_cost}
+use Rattle.dri_clips.specs.Mends.{mending_cost, moving_cost}
 use Rattle.dri_clips.specs.Boards.{Screen}
 use Rattle.dri_clips.specs.Layouts.{AreDistinct, SameNumbers}
 use Rattle.dri_clips.proofs.Restacking.{death_cost, others_without, without_numbers, without_ranged}
@@ -26,4 +26,4 @@ restack-requires-clause-others g c =
 pub returns-clause-steps : goal.returns-clause-steps
 returns-clause-steps g c =
     death_cost c.args.owner c.args.self.now.stack c.args.steps.now c.restack.new.steps (subst (λ (v : Screen). AreDistinct v.stack) c.self.view_is c.self.invariant.0.apart)
-    (subst (λ (ws : List Window). c.restack.new.steps ≤ c.args.steps.now + mending_cost (λ w. w.owner == c.args.owner) c.args.self.now.stack ws) (c.in_ok-stack.ensures ∙ ap (λ (v : Screen). without_owner c.args.owner v.stack) c.self.view_is) c.restack.ensures.steps)
+    (subst (λ (ws : List Window). c.restack.new.steps ≤ c.args.steps.now + (mending_cost (λ w. w.owner == c.args.owner) c.args.self.now.stack ws + moving_cost)) (c.in_ok-stack.ensures ∙ ap (λ (v : Screen). without_owner c.args.owner v.stack) c.self.view_is) c.restack.ensures.steps)
