@@ -26,6 +26,7 @@ phase_kept p l x n is goes script regions kept = subst (IsKept script regions) (
   more = goes (length script.commands) kept.more;
   bound = kept.bound;
   inside = kept.inside;
+  blocks = kept.blocks;
 })
 
 -- from a phase in which a command is left
@@ -96,6 +97,7 @@ changed_kept script command h p l n range is kept = subst (IsKept script n) (sym
   more = kept.more;
   bound = bound_after script command p.state range kept.bound;
   inside = kept.inside;
+  blocks = kept.blocks;
 })
 
 -- after it went on to the command behind
@@ -106,6 +108,7 @@ advanced_kept script command p l n next is kept = subst (IsKept script n) (sym i
   more = goes_after command (is_last_of script p.place) p.place (length script.commands) (λ i. is_last_of script p.place);
   bound = kept.bound;
   inside = kept.inside;
+  blocks = kept.blocks;
 })
 
 -- after a leave
@@ -116,6 +119,7 @@ left_kept script p l n is kept = subst (IsKept script n) (sym is) (record {
   more = left_goes p.phase script p.place kept.more;
   bound = kept.bound;
   inside = kept.inside;
+  blocks = kept.blocks;
 })
 
 -- once nothing is dirty
@@ -126,4 +130,5 @@ emptied_kept p l is script regions kept = subst (IsKept script regions) (sym is)
   more = kept.more;
   bound = kept.bound;
   inside = kept.inside;
+  blocks = kept.blocks;
 })

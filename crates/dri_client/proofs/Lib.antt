@@ -4,6 +4,7 @@ mod Losses
 -- The steps of a part, and those of the private part that it agrees with
 pub mod Agreeing
 mod Running
-mod Placing
+pub mod Placing
 -- What stays true of a part
 pub mod Keeping
+mod Standing

@@ -1,23 +1,24 @@
 -- Textures that are lost.
-use Rattle.std.proofs.Common.{◌≡◌, ◌<◌, ◌≤◌, ◌+◌, ℕ, suc, List, Bool, true, false, Option, Some, None, arith, refl, sym, ap, ◌∙◌}
+use Rattle.std.proofs.Common.{◌≡◌, ◌<◌, ◌≤◌, ◌+◌, ℕ, suc, Bool, true, false, Option, Some, None, arith, refl, sym, ap, ◌∙◌}
 use Rattle.std.specs.Prelude.{◌==◌, ◌||◌, if◌then◌else◌, nat_lt, not}
 use Rattle.std.proofs.lemmas.Bool.{and_parts, true≢false}
 use Rattle.std.proofs.lemmas.Bool.Decides.{nat_tests}
-use Rattle.dri_core.specs.Privates.{loses, placed_after, run_of}
-use Rattle.dri_core.proofs.Textures.{in_bounds}
+use Rattle.dri_core.specs.Privates.{loses, placed_after, spot_of}
+use Rattle.dri_core.proofs.Packing.{in_bounds}
 use Rattle.dri_core.proofs.TextureUses.{freed_age, freed_low, room_at}
-use Rattle.dri_model.specs.Heaps.{Heap, Run, age_freed, allocated, classes_for, fits, freed_for, in_run, is_newer, is_place_for, is_room, lose, lowest_place}
+use Rattle.dri_model.specs.Heaps.{Heap, Run, Spot, age_freed, allocated, classes_for, fits, freed_for, in_run, is_newer, is_place_for, is_room, lose, lowest_place}
 use Rattle.dri_model.proofs.Counts.{any_same}
-use Rattle.dri_texheap.specs.Placements.{is_bound_lost, is_lost, placed_of}
+use Rattle.dri_model.specs.Shares.{lose_levels}
+use Rattle.dri_texheap.specs.Placements.{Placements, is_bound_lost, is_lost, placed_of}
 
-lost_same : (f : ℕ → Bool) (o : Option Run) → is_lost f o ≡ loses f o
+lost_same : (f : ℕ → Bool) (o : Option Spot) → is_lost f o ≡ loses f o
 lost_same f None = refl
-lost_same f (Some run) = refl
+lost_same f (Some spot) = refl
 
 -- the two ways to say that the bound texture is lost
-pub bound_lost_same : (f : ℕ → Bool) (runs : List (Option Run)) (bound : Option ℕ) → is_bound_lost f runs bound ≡ loses f (run_of (placed_of runs) bound)
-bound_lost_same f runs None = refl
-bound_lost_same f runs (Some t) = lost_same f (placed_of runs t)
+pub bound_lost_same : (f : ℕ → Bool) (p : Placements) (bound : Option ℕ) → is_bound_lost f p bound ≡ loses f (spot_of (placed_of p) bound)
+bound_lost_same f p None = refl
+bound_lost_same f p (Some t) = lost_same f (placed_of p t)
 
 within_run : (r : Run) (k : ℕ) → r.first ≤ k → k < r.first + r.count → in_run r k ≡ true
 within_run r k low high = grind (arith, nat_tests)
@@ -52,11 +53,25 @@ module _ (n : ℕ) (h : Heap) (local : ℕ) (run : Run) (ages : (k : ℕ) → h.
       by_tests false false inside is = older local (h.age k) (omega (arith, known, ages k))
 
   -- a placed texture in regions in use is lost by age exactly where it is lost by what was freed
-  lose_used : (o : Option Run) → ((r : Run) → o ≡ Some r → (k : ℕ) → in_run r k ≡ true → h.used k ≡ true) → lose (is_newer (allocated n h run) local) o ≡ lose freed o
+  lose_used : (o : Option Spot) → ((spot : Spot) → o ≡ Some spot → (k : ℕ) → in_run spot.run k ≡ true → h.used k ≡ true) → lose (is_newer (allocated n h run) local) o ≡ lose freed o
   lose_used None used = refl
-  lose_used (Some r) used = ap (λ b. if b then None else Some r) (any_same (is_newer (allocated n h run) local) freed r.first r.count (λ k low high. newer_used k (used r refl k (within_run r k low high))))
+  lose_used (Some spot) used = ap (λ b. if b then None else Some spot) (any_same (is_newer (allocated n h run) local) freed spot.run.first spot.run.count (λ k low high. newer_used k (used spot refl k (within_run spot.run k low high))))
 
   -- the placed textures after the allocation
-  pub placed_same : (placed : ℕ → Option Run) (t : ℕ) → ((u : ℕ) (r : Run) → placed u ≡ Some r → (k : ℕ) → in_run r k ≡ true → h.used k ≡ true)
-      → (λ u. if u == t then Some run else lose (is_newer (allocated n h run) local) (placed u)) ≡ placed_after placed (freed_for n h run.count) t run
-  placed_same placed t used = λ i u. if u == t then Some run else lose_used (placed u) (used u) i
+  pub placed_same : (placed : ℕ → Option Spot) (t : ℕ) (at : Spot) → ((u : ℕ) (spot : Spot) → placed u ≡ Some spot → (k : ℕ) → in_run spot.run k ≡ true → h.used k ≡ true)
+      → (λ u. if u == t then Some at else lose (is_newer (allocated n h run) local) (placed u)) ≡ placed_after placed (freed_for n h run.count) t at
+  placed_same placed t at used = λ i u. if u == t then Some at else lose_used (placed u) (used u) i
+
+  -- and the levels
+  pub levels_same : (levels : ℕ → Option ℕ) → ((k level : ℕ) → levels k ≡ Some level → h.used k ≡ true) → (k : ℕ) → lose_levels (is_newer (allocated n h run) local) levels k ≡ lose_levels (freed_for n h run.count) levels k
+  levels_same levels used k = by_level (levels k) refl
+    where
+      by_level : (o : Option ℕ) → levels k ≡ o → (if is_newer (allocated n h run) local k then None else levels k) ≡ (if freed k then None else levels k)
+      by_level None e = rw e (both (is_newer (allocated n h run) local k) (freed k))
+        where
+          both : (a b : Bool) → ◌≡◌ {A = Option ℕ} (if a then None else None) (if b then None else None)
+          both true true = refl
+          both true false = refl
+          both false true = refl
+          both false false = refl
+      by_level (Some level) e = ap (λ b. if b then None else levels k) (newer_used k (used k level e))

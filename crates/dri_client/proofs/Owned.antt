@@ -21,7 +21,7 @@ use Rattle.dri_base.specs.Texels.{texture_in}
 use Rattle.dri_base.proofs.RangeLemmas.{textures_in_range}
 use Rattle.dri_core.specs.Privates.{textured_with}
 use Rattle.dri_core.proofs.Parts.{used_bound}
-use Rattle.dri_model.specs.Heaps.{Run}
+use Rattle.dri_model.specs.Heaps.{Spot}
 use Rattle.dri_client.specs.Kept.{IsKept, IsScript}
 use Rattle.dri_client.specs.Parts.{PartState, next_command}
 use Rattle.dri_client.specs.Textures.{missing_in, shape_in, shape_of}
@@ -121,10 +121,10 @@ used_number script n t p ranged kept used = by_texture (texture_in script.textur
     by_texture (Some x) is some = subst (IsWithin 1 64) (texture_number script.textures t x is) (ranged.textured t x is).numbered
 
 -- a missing texture is used, and isn't placed
-pub missing_parts : (placed : ℕ → Option Run) (o : Option ℕ) (t : ℕ) → missing_in placed o ≡ Some t → (o ≡ Some t) × (placed t ≡ None)
+pub missing_parts : (placed : ℕ → Option Spot) (o : Option ℕ) (t : ℕ) → missing_in placed o ≡ Some t → (o ≡ Some t) × (placed t ≡ None)
 missing_parts placed None t is = absurd (cc)
 missing_parts placed (Some u) t is = by_run (placed u) refl is
   where
-    by_run : (r : Option Run) → placed u ≡ r → (if is_none r then Some u else None) ≡ Some t → (Some u ≡ Some t) × (placed t ≡ None)
+    by_run : (r : Option Spot) → placed u ≡ r → (if is_none r then Some u else None) ≡ Some t → (Some u ≡ Some t) × (placed t ≡ None)
     by_run None none is = (is, ap placed (sym (same_Some u t is)) ∙ none)
     by_run (Some run) some is = absurd (cc)

@@ -15,13 +15,13 @@ use Rattle.dri_base.specs.declared.state.State.{State}
 use Rattle.dri_core.specs.Effects.{heap_after, local_after}
 use Rattle.dri_core.specs.EntryTable.{after_entry}
 use Rattle.dri_core.specs.Phases.{phase_after}
-use Rattle.dri_core.specs.Privates.{Private, state_by, used_run}
+use Rattle.dri_core.specs.Privates.{Private, state_by, used_spot}
 use Rattle.dri_core.specs.Worlds.{World}
 use Rattle.dri_model.specs.Groups.{Groups, blend_word, depth_word, dirtied, flag_word, mode_word, same_number, same_rect, shade_word, wrap_word}
-use Rattle.dri_model.specs.Heaps.{Heap, Run}
+use Rattle.dri_model.specs.Heaps.{Heap, Spot}
 use Rattle.dri_client.specs.Parts.{Agrees, PartState, next_command, part_after}
 use Rattle.dri_client.specs.Steps.{advanced, age_after, changed_by, is_last_of}
-use Rattle.dri_client.specs.Textures.{age_known, run_used}
+use Rattle.dri_client.specs.Textures.{age_known, spot_used}
 use Rattle.dri_client.proofs.Agreeing.{agrees_put}
 
 -- no group becomes dirty where no value differs
@@ -59,7 +59,7 @@ dirtied_same s g = λ i. record {
       rw (a, b, c, d) refl
 
 -- what a triangle does to a part
-pub changed_triangle : (p : PartState) (command : Command) (t : Triangle) (h : Heap) (local : ℕ) → command ≡ Command_is.Triangle t → local ≡ age_known h p.local (is_some (run_used p)) → record p { local = local } ≡ changed_by command h p
+pub changed_triangle : (p : PartState) (command : Command) (t : Triangle) (h : Heap) (local : ℕ) → command ≡ Command_is.Triangle t → local ≡ age_known h p.local (is_some (spot_used p)) → record p { local = local } ≡ changed_by command h p
 changed_triangle p command t h local is known = (λ i. record p { dirty = sym (dirtied_same p.state p.dirty) i; local = known i }) ∙ ap (λ (x : Command). changed_by x h p) (sym is)
 
 -- a command that is no setting and no triangle does nothing to it
@@ -72,7 +72,7 @@ changed_none p Command_is.Yield h unset undrawn = λ i. record p { dirty = sym (
 changed_none p Command_is.Die h unset undrawn = λ i. record p { dirty = sym (dirtied_same p.state p.dirty) i }
 
 -- the age up to which a part knows the regions that a command left
-age_left : (command : Command) (h : Heap) (run : Option Run) (local : ℕ) → age_after command (heap_after h run (Some command)) run local ≡ local_after local h run (Some command)
+age_left : (command : Command) (h : Heap) (run : Option Spot) (local : ℕ) → age_after command (heap_after h run (Some command)) run local ≡ local_after local h run (Some command)
 age_left (Command_is.Triangle t) h (Some run) local = refl
 age_left (Command_is.Triangle t) h None local = refl
 age_left (Command_is.Set setting) h run local = refl
@@ -85,8 +85,8 @@ age_left Command_is.Die h run local = refl
 pub run_agrees : (s : Scene) (w : World) (c : ℕ) (p m l : PartState) (script : ClientScript) (command : Command) (h : Heap) → m ≡ changed_by command h p → l ≡ advanced script command m → next_command script p ≡ Some command
     → script ≡ script_of s c → Agrees p (w.client c) → h ≡ (after_entry s w (Entry_is.Run c p.place)).heap → Agrees l (part_after s w (Entry_is.Run c p.place) c)
 run_agrees s w c p m l script command h m_is l_is next own agrees heap =
-    agrees_put l w.client c (ran (script_of s c) (command_at s c p.place) (local_after q.local w.heap (used_run q) (command_at s c p.place)) q)
-    (subst (λ (n : PartState). Agrees n (ran (script_of s c) (command_at s c p.place) (local_after q.local w.heap (used_run q) (command_at s c p.place)) q)) (sym (l_is ∙ ap (advanced script command) m_is))
+    agrees_put l w.client c (ran (script_of s c) (command_at s c p.place) (local_after q.local w.heap (used_spot q) (command_at s c p.place)) q)
+    (subst (λ (n : PartState). Agrees n (ran (script_of s c) (command_at s c p.place) (local_after q.local w.heap (used_spot q) (command_at s c p.place)) q)) (sym (l_is ∙ ap (advanced script command) m_is))
     (λ i. ran (own i) (at i) (local i) (agrees i)))
   where
     q : Private
@@ -104,8 +104,8 @@ run_agrees s w c p m l script command h m_is l_is next own agrees heap =
     at : Some command ≡ command_at s c p.place
     at = sym next ∙ ap (λ (t : ClientScript). slice_get t.commands (pred p.place)) own
 
-    run : run_used p ≡ used_run q
-    run = ap used_run agrees
+    run : spot_used p ≡ used_spot q
+    run = ap used_spot agrees
 
-    local : age_after command h (run_used p) p.local ≡ local_after q.local w.heap (used_run q) (command_at s c p.place)
-    local = (λ i. age_after command ((heap ∙ ap (heap_after w.heap (used_run q)) (sym at)) i) (run i) (agrees i).local) ∙ (age_left command w.heap (used_run q) q.local ∙ ap (local_after q.local w.heap (used_run q)) at)
+    local : age_after command h (spot_used p) p.local ≡ local_after q.local w.heap (used_spot q) (command_at s c p.place)
+    local = (λ i. age_after command ((heap ∙ ap (heap_after w.heap (used_spot q)) (sym at)) i) (run i) (agrees i).local) ∙ (age_left command w.heap (used_spot q) q.local ∙ ap (local_after q.local w.heap (used_spot q)) at)

@@ -1,11 +1,11 @@
 -- What every client's part keeps true of itself.
-use Rattle.std.specs.Prelude.{◌≡◌, ◌<◌, ◌≤◌, ◌+◌, ℕ, Some, IsSome, length}
+use Rattle.std.specs.Prelude.{◌≡◌, ◌<◌, ◌≤◌, ◌+◌, ℕ, Some, IfSome, IsSome, length}
 use Rattle.dri_base.specs.Ranges.{CommandsInRange, TextureInRange, texture_numbers}
 use Rattle.dri_base.specs.Texels.{texture_in}
 use Rattle.dri_base.specs.declared.scene.ClientScript.{ClientScript}
 use Rattle.dri_base.specs.declared.texture.Texture.{Texture}
 use Rattle.dri_core.specs.Phases.{Over, Ended, Dead, Phase}
-use Rattle.dri_texheap.specs.Placements.{AreInside}
+use Rattle.dri_texheap.specs.Placements.{AreInside, placed_of}
 use Rattle.dri_client.specs.Activities.{phase_in}
 use Rattle.dri_client.specs.Parts.{PartState}
 use Rattle.dri_client.specs.declared.part.ClientPart.TheInside.{Inside}
@@ -22,10 +22,11 @@ state_of p = record {
   local = p.local;
 }
 
--- what holds of any part: a command is next or none is left, and there is room for the runs of 64 textures
+-- what holds of any part: a command is next or none is left, there is room for the spots of 64 textures, and a region has at most 65,536 bytes
 pub record IsPart (p : PartState) : Type 0 where
   pub started : 0 < p.place
-  pub roomy : length p.placed ≡ 64
+  pub roomy : length p.placed.spots ≡ 64
+  pub sized : p.placed.region_size ≤ 65536
 
 -- a script of a scene in range, with so many bytes of texture memory
 pub record IsScript (script : ClientScript) : Type 0 where
@@ -49,8 +50,10 @@ pub record IsKept (script : ClientScript) (regions : ℕ) (p : PartState) : Type
   pub more : GoesOn p.phase p.place (length script.commands)
   -- the bound texture is one of the script's
   pub bound : (t : ℕ) → p.state.bound ≡ Some t → IsSome (texture_in script.textures t)
-  -- each run that is placed lies inside the regions
+  -- what is placed lies inside the regions, and so do the shared regions
   pub inside : AreInside regions p.placed
+  -- and begins at a block of a region
+  pub blocks : (t : ℕ) → IfSome (placed_of p.placed t) (λ spot. spot.block ≤ 1024)
 
 -- a step leaves a part the part of the client whose it was
 abbrev pub StaysKept : PartState → PartState → Type 0

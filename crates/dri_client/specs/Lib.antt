@@ -3,3 +3,4 @@ pub mod Parts
 pub mod Kept
 pub mod Textures
 pub mod Steps
+pub mod Placings

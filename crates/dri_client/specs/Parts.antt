@@ -1,5 +1,5 @@
 -- What contracts see of a client's part, and that it is the part of a world.
-use Rattle.std.specs.Prelude.{◌≡◌, Bool, List, Option, pred, slice_get, ℕ, ℤ}
+use Rattle.std.specs.Prelude.{◌≡◌, Bool, Option, pred, slice_get, ℕ, ℤ}
 use Rattle.dri_base.specs.declared.command.Command.{Command}
 use Rattle.dri_base.specs.declared.journal.Entry.{Entry}
 use Rattle.dri_base.specs.declared.scene.ClientScript.{ClientScript}
@@ -10,8 +10,7 @@ use Rattle.dri_core.specs.Phases.{Phase}
 use Rattle.dri_core.specs.Privates.{Private}
 use Rattle.dri_core.specs.Worlds.{World}
 use Rattle.dri_model.specs.Groups.{Groups}
-use Rattle.dri_model.specs.Heaps.{Run}
-use Rattle.dri_texheap.specs.Placements.{placed_of}
+use Rattle.dri_texheap.specs.Placements.{Placements, levels_of, placed_of}
 
 -- what a client keeps, but for its copies of its window's clips and origin
 pub record PartState : Type 0 where
@@ -23,8 +22,8 @@ pub record PartState : Type 0 where
   -- its own drawing state, and the groups of it that the card may not have
   pub state : State
   pub dirty : Groups
-  -- the runs of its textures, from texture 1 on
-  pub placed : List (Option Run)
+  -- where its textures are placed, and the levels of its shared regions
+  pub placed : Placements
   -- the age up to which it knows the regions
   pub local : ℕ
 
@@ -39,6 +38,7 @@ private_of p copy origin = record {
   state = p.state;
   dirty = p.dirty;
   placed = placed_of p.placed;
+  levels = levels_of p.placed;
   local = p.local;
 }
 

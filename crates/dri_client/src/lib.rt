@@ -9,7 +9,9 @@
 mod activity;
 mod part;
 mod script;
+mod spots;
 
 pub use activity::Activity;
 pub use part::ClientPart;
-pub use script::place_of;
+pub use script::{bytes_in, place_of};
+pub use spots::stand;

@@ -1,7 +1,7 @@
 //! A client's part. What it is doing and what it keeps changes by its own entries alone: each call that takes `&mut self`
 //! is the step of one of them. The client's script isn't kept; who calls hands it in.
 
-ghost use Rattle.std.specs.Prelude.{◌≡◌, ◌<◌, ℕ, IfOk};
+ghost use Rattle.std.specs.Prelude.{◌≡◌, ◌<◌, ◌≤◌, ℕ, IfOk};
 ghost use Rattle.dri_core.specs.Privates.{opening_part};
 ghost use Rattle.dri_client.specs.Activities.{phase_in};
 ghost use Rattle.dri_client.specs.Kept.{IsKept};
@@ -13,7 +13,7 @@ mod take;
 mod textures;
 
 use crate::activity::Activity;
-use dri_base::{ClientScript, Command, OutOfMemory};
+use dri_base::{ClientScript, Command, OutOfMemory, State};
 use dri_context::{ContextState, Groups};
 use dri_texheap::Placed;
 use std::alloc::Global;
@@ -47,12 +47,18 @@ impl Model for ClientPart {
 
 impl ClientPart {
     /// The part of a script's client as the run begins: with its first command next, the state that every script begins
-    /// with, all of it dirty, and no texture placed.
-    pub fn new(alloc: Global, script: &ClientScript) -> Result<ClientPart, OutOfMemory>
+    /// with, all of it dirty, no texture placed and no region shared. `region_size` counts the bytes of a region, at most 65,536.
+    pub fn new(
+        alloc: Global,
+        script: &ClientScript,
+        region_size: u32,
+    ) -> Result<ClientPart, OutOfMemory>
+        requires size { region_size ≤ 65536 }
+        ensures size { IfOk result (λ p. p.placed.region_size ≡ region_size) }
         ensures part { IfOk result (λ p. Agrees p (opening_part script.now.commands)) }
         ensures kept { IfOk result (λ p. (regions : ℕ) → IsKept script.now regions p) }
     {
-        let placed = Placed::new(alloc, TEXTURES)?;
+        let placed = Placed::new(alloc, TEXTURES, region_size)?;
         Ok(ClientPart {
             activity: Activity::first(script.commands.as_slice()),
             place: 1,
@@ -83,6 +89,13 @@ impl ClientPart {
         ensures { result ≡ self.now.stamp }
     {
         self.stamp
+    }
+
+    /// Its drawing state.
+    pub fn state(&self) -> State
+        ensures { result ≡ self.now.state }
+    {
+        self.context.state()
     }
 
     /// The groups of its state that the card may not have.

@@ -47,9 +47,11 @@ least_most p (suc n) = by (any_from p 0 n) refl (p n) refl (least_most p n)
     by false e true f l = rw (e, f) (omega arith)
     by false e false f l = rw (e, f) (omega arith)
 
-use_most : (t : Bool) → (if t then 1 else 0) ≤ 1
-use_most true = omega arith
-use_most false = omega arith
+use_most : (t used shared : Bool) → (if t then (if used then (if shared then 2 else 1) else 0) else 0) ≤ 2
+use_most true true true = omega arith
+use_most true true false = omega arith
+use_most true false shared = omega arith
+use_most false used shared = omega arith
 
 foremost_most : (n : ℕ) (before : ℕ → ℕ → Bool) (has : ℕ → Bool) → foremost n before has ≤ n
 foremost_most n before has = least_most (λ j. has j && not (any_from (λ k. has k && before k j) 0 n)) n
@@ -60,7 +62,7 @@ entry_fits n h i m l s =
     (rw (
       within_fits Byte 0 n (entry n h i).next (omega (arith, next, m)) (omega arith) next,
       within_fits Byte 0 n (entry n h i).prev (omega (arith, prev, m)) (omega arith) prev,
-      within_fits Byte 0 1 (entry n h i).in_use (omega (arith, used)) (omega arith) used,
+      within_fits Byte 0 2 (entry n h i).in_use (omega (arith, used)) (omega arith) used,
       any_fits (entry n h i).age s,
     )
     refl)
@@ -71,8 +73,8 @@ entry_fits n h i m l s =
     prev : (entry n h i).prev ≤ n
     prev = foremost_most n (λ j k. stands_before h k j) (λ j. (i == n) || stands_before h j i)
 
-    used : (entry n h i).in_use ≤ 1
-    used = use_most (nat_lt i n && h.used i)
+    used : (entry n h i).in_use ≤ 2
+    used = use_most (nat_lt i n) (h.used i) (h.shared i)
 
 same_all : {A : Type 0} (n i : ℕ) (a : A) → get_or (replicate n a) i a ≡ a
 same_all zero i a = refl

@@ -55,9 +55,9 @@ drawable_fields = number Any ∷ number (Within 0 1) ∷ []
 abbrev pub drawable_values : Drawable → List ℕ
 drawable_values d = d.stamp ∷ d.flags ∷ []
 
--- entry i of the list of n regions: next, prev, in use, padding, age; above the head nothing
+-- entry i of the list of n regions: next, prev, how it is used, padding, age; above the head nothing
 abbrev pub entry_fields : ℕ → ℕ → List Field
-entry_fields n i = if nat_le i n then byte (Within 0 n) ∷ byte (Within 0 n) ∷ byte (Within 0 1) ∷ byte (Within 0 0) ∷ number Any ∷ [] else zero_fields 8
+entry_fields n i = if nat_le i n then byte (Within 0 n) ∷ byte (Within 0 n) ∷ byte (Within 0 2) ∷ byte (Within 0 0) ∷ number Any ∷ [] else zero_fields 8
 
 -- what an entry has there
 abbrev pub entry_values : ℕ → ℕ → TexRegion → List ℕ

@@ -172,7 +172,10 @@ pub fn numbers() -> [Field; 10]
     ]
 }
 
-/// An entry of the list of `count` regions: next, prev, in use, padding, age.
+/// The greatest number that tells how a region is used: 0 free, 1 in use, 2 shared.
+const MOST_USE: u32 = 2;
+
+/// An entry of the list of `count` regions: next, prev, how it is used, padding, age.
 pub fn entry(count: u32) -> [Field; 5]
     ensures { result ≡ entry_fields count 0 }
 {
@@ -180,7 +183,7 @@ pub fn entry(count: u32) -> [Field; 5]
     [
         link,
         link,
-        byte(Range::Within(0, 1)),
+        byte(Range::Within(0, MOST_USE)),
         zero(),
         number(Range::Any),
     ]

@@ -9,3 +9,4 @@ pub mod Linked
 -- what calls leave
 pub mod Heaped
 pub mod Losing
+pub mod Rooming

@@ -3,20 +3,21 @@ use Rattle.std.specs.Prelude.{◌≡◌, ◌<◌, ◌≤◌, ℕ, List, get_or, 
 use Rattle.dri_base.specs.declared.scene.Scene.{Scene}
 use Rattle.dri_model.specs.Heaps.{Heap, Run, in_run}
 
--- the number of regions, the global age, and by a region's number whether it is in use, and its age
+-- the number of regions, the global age, and by a region's number whether it is in use, whether it is marked as shared, and its age
 pub record RegionState : Type 0 where
   pub count : ℕ
   pub global : ℕ
   pub used : List Bool
+  pub shared : List Bool
   pub ages : List ℕ
 
--- the heap with this global age, these uses and these ages
+-- the heap with this global age, these uses and these ages, in which nothing is marked
 abbrev pub heap_from : ℕ → List Bool → List ℕ → Heap
-heap_from global used ages = record { global = global; used = λ k. get_or used k false; age = λ k. get_or ages k 0 }
+heap_from global used ages = record { global = global; used = λ k. get_or used k false; shared = λ k. false; age = λ k. get_or ages k 0 }
 
 -- the heap that the regions are
 abbrev pub heap_of : RegionState → Heap
-heap_of s = heap_from s.global s.used s.ages
+heap_of s = record (heap_from s.global s.used s.ages) { shared = λ k. get_or s.shared k false }
 
 -- the run lies inside the first n regions
 abbrev pub IsInside : ℕ → Run → Type 0

@@ -3,7 +3,7 @@ use Rattle.std.specs.Prelude.{◌≡◌, ◌<◌, ◌≤◌, true, false, Option
 use Rattle.std.specs.List.{range_with_len}
 use Rattle.dri_base.specs.declared.texture.TexRegion.{TexRegion}
 use Rattle.dri_model.specs.Counting.{any_from, least}
-use Rattle.dri_model.specs.Heaps.{Heap, stands_before}
+use Rattle.dri_model.specs.Heaps.{Heap, stands_before, use_of}
 use Rattle.dri_texheap.specs.declared.links.Direction.{Direction}
 use Rattle.dri_texheap.specs.declared.links.Direction.TheVariants.{Onward, Backward}
 
@@ -19,12 +19,12 @@ next_of n h i = foremost n (stands_before h) (λ j. (i == n) || stands_before h 
 abbrev pub prev_of : ℕ → Heap → ℕ → ℕ
 prev_of n h i = foremost n (λ j k. stands_before h k j) (λ j. (i == n) || stands_before h j i)
 
--- entry i of the ring of n regions; the head is never in use, and has age 0
+-- entry i of the ring of n regions: how it is used, and its age; the head is never in use, and has age 0
 abbrev pub entry : ℕ → Heap → ℕ → TexRegion
 entry n h i = record {
   next = next_of n h i;
   prev = prev_of n h i;
-  in_use = if nat_lt i n && h.used i then 1 else 0;
+  in_use = if nat_lt i n then use_of h i else 0;
   age = if nat_lt i n then h.age i else 0;
 }
 

@@ -52,3 +52,18 @@ pub fn make_room(used: &mut [bool], ages: &mut [u32], bound: u32, age: u32) -> u
     release(used, ages, bound, age + 1);
     age + 1
 }
+
+/// Takes the mark away from a run, and from what is in use with an age below the bound.
+pub fn unmark(shared: &mut [bool], used: &[bool], ages: &[u32], bound: u32, first: usize, k: usize)
+    requires uses { length shared.old ≡ length used.now }
+    requires same { length used.now ≡ length ages.now }
+    requires small { first + k ≤ length shared.old }
+    ensures { (i : ℕ) → get_or shared.new i false ≡ (get_or shared.old i false && not (is_within first k i || is_old used.now ages.now bound i)) }
+{
+    for i in 0..shared.len() {
+        let is_freed = used[i] && ages[i] < bound;
+        if (first <= i && i < first + k) || is_freed {
+            shared[i] = false;
+        }
+    }
+}

@@ -1,27 +1,29 @@
-//! The regions of texture memory in fixed memory: for each of at most 64 whether it is in use, and its age. The list
+//! The regions of texture memory in fixed memory: for each of at most 64 whether it is in use, whether it is marked as shared,
+//! and its age. The list
 //! from the most to the least recently used isn't kept: it is the order of the ages, and an entry's two links are found
 //! when it is read.
 
-ghost use Rattle.std.specs.Prelude.{◌≡◌, ◌<◌, ◌≤◌, ◌+◌, ℕ, false, true, IsErr, IfOk, IfErr, ◌↔◌};
+ghost use Rattle.std.specs.Prelude.{◌≡◌, ◌<◌, ◌≤◌, ◌+◌, ℕ, false, true, if◌then◌else◌, IsErr, IfOk, IfErr, ◌↔◌};
 ghost use Rattle.dri_base.specs.Limits.{last_age};
-ghost use Rattle.dri_model.specs.Heaps.{any_in, is_newer, is_place_for, allocated, touched};
+ghost use Rattle.dri_model.specs.Heaps.{any_in, is_newer, is_place_for, allocated, marked, touched};
 ghost use Rattle.dri_texheap.specs.RegionStates.{heap_of, IsHeap, IsInside, IsInUse};
 ghost use Rattle.dri_texheap.specs.Ring.{IsOneList, entry, foremost, goes, follows};
 
 use crate::choice::choose;
 use crate::links::{Direction, link};
-use crate::marks::{make_room, mark_ages, mark_used};
+use crate::marks::{make_room, mark_ages, mark_used, unmark};
 use crate::run::{Run, TooLarge};
 use dri_base::TexRegion;
 use std::marker::Model;
 
-/// The regions of texture memory. Contracts see how many they are, the global age, and by number which are in use and
-/// each one's age: `heap_of` makes a heap of these.
+/// The regions of texture memory. Contracts see how many they are, the global age, and by number which are in use, which
+/// are marked as shared, and each one's age: `heap_of` makes a heap of these.
 #[derive(Drop)]
 pub struct Regions {
     count: u32,
     age: u32,
     used: [bool; 64],
+    shared: [bool; 64],
     ages: [u32; 64],
 }
 
@@ -31,9 +33,20 @@ impl Model for Regions {
 
     ghost Value = { RegionState };
 
-    ghost view = { λ it. record { count = it.count; global = it.age; used = it.used; ages = it.ages } };
+    ghost view = { λ it. record { count = it.count; global = it.age; used = it.used; shared = it.shared; ages = it.ages } };
 
-    ghost invariant = { λ it. IsHeap (record { count = it.count; global = it.age; used = it.used; ages = it.ages }) };
+    ghost invariant = { λ it. IsHeap (record { count = it.count; global = it.age; used = it.used; shared = it.shared; ages = it.ages }) };
+}
+
+/// How a region is used: 0 free, 1 in use, 2 shared.
+fn use_of(used: bool, shared: bool) -> u8
+    ensures { result ≡ (if used then (if shared then 2 else 1) else 0) }
+{
+    match (used, shared) {
+        (false, _) => 0,
+        (true, false) => 1,
+        (true, true) => 2,
+    }
 }
 
 impl Regions {
@@ -41,13 +54,14 @@ impl Regions {
     pub fn new(count: u32) -> Regions
         requires some { 0 < count }
         requires most { count ≤ 64 }
-        ensures heap { heap_of result ≡ record { global = 0; used = λ k. false; age = λ k. 0 } }
+        ensures heap { heap_of result ≡ record { global = 0; used = λ k. false; shared = λ k. false; age = λ k. 0 } }
         ensures count { result.count ≡ count }
     {
         Regions {
             count,
             age: 0,
             used: [false; 64],
+            shared: [false; 64],
             ages: [0; 64],
         }
     }
@@ -77,7 +91,7 @@ impl Regions {
     }
 
     /// An entry of the list from the most to the least recently used region, by falling age and then by rising number:
-    /// the entry after it and the entry before it, whether it is in use, and its age. Entry i is region i, and entry
+    /// the entry after it and the entry before it, how it is used (0 free, 1 in use, 2 shared), and its age. Entry i is region i, and entry
     /// `count` is the list's head, which stands before the first region and after the last.
     pub fn region(&self, i: u32) -> TexRegion
         requires { i ≤ self.now.count }
@@ -96,7 +110,7 @@ impl Regions {
         TexRegion {
             next,
             prev,
-            in_use: u8::from(self.used[i as usize]),
+            in_use: use_of(self.used[i as usize], self.shared[i as usize]),
             age: self.ages[i as usize],
         }
     }
@@ -106,6 +120,14 @@ impl Regions {
     pub fn linked(&self)
         ensures { IsOneList self.now.count (entry self.now.count (heap_of self.now)) }
     {}
+
+    // Whether the region has an age above `local`.
+    pub(crate) fn is_newer(&self, i: u32, local: u32) -> bool
+        requires { i < self.now.count }
+        ensures { result ≡ is_newer (heap_of self.now) local i }
+    {
+        self.ages[i as usize] > local
+    }
 
     // Whether a region of the run has an age above `local`.
     pub(crate) fn is_any_newer(&self, run: Run, local: u32) -> bool
@@ -138,6 +160,15 @@ impl Regions {
         );
     }
 
+    /// Marks a region that is in use as shared.
+    pub fn mark_shared(&mut self, i: u32)
+        requires in_use { (heap_of self.old).used i ≡ true }
+        ensures heap { heap_of self.new ≡ marked true i (heap_of self.old) }
+        ensures count { self.new.count ≡ self.old.count }
+    {
+        self.shared[i as usize] = true;
+    }
+
     /// The first region of the run that an allocation of k neighbouring regions would take. There are as many, and k is
     /// at least one. The global age is at most 4,294,967,000.
     pub fn place_for(&self, k: u32) -> u32
@@ -158,7 +189,7 @@ impl Regions {
     }
 
     /// Takes k neighbouring regions, at least one. As few age classes as make room for them are freed, the oldest first,
-    /// and the run is the lowest that is free then. It is too large exactly where there are fewer than k regions, and
+    /// and the run is the lowest that is free then; neither what is freed nor the run is marked as shared. It is too large exactly where there are fewer than k regions, and
     /// then nothing changes. The global age is at most 4,294,967,000 before.
     pub fn allocate(&mut self, k: u32) -> Result<Run, TooLarge>
         requires some { 1 ≤ k }
@@ -182,6 +213,14 @@ impl Regions {
             &self.ages,
             self.count as usize,
             self.age,
+            k as usize,
+        );
+        unmark(
+            &mut self.shared,
+            &self.used,
+            &self.ages,
+            bound,
+            first,
             k as usize,
         );
         self.age = make_room(&mut self.used, &mut self.ages, bound, self.age);

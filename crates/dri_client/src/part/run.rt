@@ -32,6 +32,7 @@ impl ClientPart {
     pub fn run(&mut self, script: &ClientScript, command: &Command, regions: &Regions)
         requires script { IsScript script.now }
         requires next { next_command script.now self.old ≡ Some command.now }
+        ensures size { self.new.placed.region_size ≡ self.old.placed.region_size }
         ensures part { (s : Scene) (w : World) (c : ℕ) → script.now ≡ script_of s c → Agrees self.old (w.client c) → heap_of regions.now ≡ (after_entry s w (Run c self.old.place)).heap → Agrees self.new (part_after s w (Run c self.old.place) c) }
         ensures kept { (regions : ℕ) → IsKept script.now regions self.old → IsKept script.now regions self.new }
     {
@@ -47,7 +48,7 @@ impl ClientPart {
         match command {
             Command::Set(setting) => self.context.set(setting),
             Command::Triangle(_) => {
-                let is_used = self.used_run().is_some();
+                let is_used = self.used_spot().is_some();
                 self.local = age_known(regions, self.local, is_used);
             }
             _ => {}

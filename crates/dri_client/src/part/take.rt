@@ -1,7 +1,7 @@
 //! The steps of a hold's ends, and of what is done to a client that holds nothing: it takes the lock, says that its stamp
 //! is old, leaves, is told of its window, and dies. A client that took the lock lightly is as the last hold left it. A
 //! client that the kernel let in finds out what others did: it makes all groups dirty where another owned the card,
-//! loses the textures of which a region is newer than the age that it knows, and compares the stamp.
+//! loses the textures and the shared regions of which a region is newer than the age that it knows, and compares the stamp.
 
 ghost use Rattle.std.specs.Prelude.{◌≡◌, ◌+◌, ◌==◌, ℕ, ℤ, Bool, if◌then◌else◌, not};
 ghost use Rattle.dri_base.specs.Scenes.{script_of, window_of};
@@ -54,6 +54,7 @@ impl ClientPart {
         requires inside { AreInside regions.now.count self.old.placed }
         ensures stale { result ≡ not (self.old.stamp == stamp) }
         ensures phase { self.new.phase ≡ (if result then Old else In) }
+        ensures size { self.new.placed.region_size ≡ self.old.placed.region_size }
         ensures part { (s : Scene) (w : World) (c found : ℕ) → Agrees self.old (w.client c) → heap_of regions.now ≡ w.heap → stamp ≡ w.stamps (window_of s c) → is_new_owner ≡ not (w.owner == c + 1) → Agrees self.new (part_after s w (Kernel c found) c) }
         ensures kept { StaysKept self.old self.new }
     {
@@ -66,6 +67,7 @@ impl ClientPart {
     // Takes in what others did to the card and to the regions.
     fn catch_up(&mut self, regions: &Regions, is_new_owner: bool)
         requires inside { AreInside regions.now.count self.old.placed }
+        ensures size { self.new.placed.region_size ≡ self.old.placed.region_size }
         ensures part { (copy : ℕ → ℕ → Bool) (origin : ℤ × ℤ) → private_of self.new copy origin ≡ caught_up (heap_of regions.now) is_new_owner (private_of self.old copy origin) }
         ensures kept { StaysKept self.old self.new }
     {
@@ -88,6 +90,7 @@ impl ClientPart {
     /// It left the lock: to ask, where it said that its stamp is old; else it is out, or has ended where no command is
     /// left.
     pub fn leave(&mut self, script: &ClientScript)
+        ensures size { self.new.placed.region_size ≡ self.old.placed.region_size }
         ensures part { (s : Scene) (w : World) (c : ℕ) → script.now ≡ script_of s c → Agrees self.old (w.client c) → Agrees self.new (part_after s w (Leave c) c) }
         ensures kept { (regions : ℕ) → IsKept script.now regions self.old → IsKept script.now regions self.new }
     {

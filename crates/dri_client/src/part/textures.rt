@@ -3,17 +3,17 @@
 ghost use Rattle.std.specs.Prelude.{◌≡◌, ◌&&◌};
 ghost use Rattle.dri_base.specs.Ranges.{CardInRange};
 ghost use Rattle.dri_base.specs.Texels.{texture_bound};
-ghost use Rattle.dri_core.specs.Privates.{bound_at, is_ready_for, run_of, textured_with};
+ghost use Rattle.dri_core.specs.Privates.{bound_at, is_ready_for, spot_of, textured_with};
 ghost use Rattle.dri_model.specs.Groups.{is_empty};
 ghost use Rattle.dri_model.specs.Words.{IsBoundInRange};
 ghost use Rattle.dri_texheap.specs.Placements.{placed_of};
 ghost use Rattle.dri_client.specs.Kept.{IsKept, IsScript};
-ghost use Rattle.dri_client.specs.Textures.{missing_texture, run_used};
+ghost use Rattle.dri_client.specs.Textures.{blocks_of, missing_texture, room_of, run_used, spot_used};
 
 use super::ClientPart;
-use crate::script::shape_in;
+use crate::script::{bytes_in, shape_in};
 use dri_base::{BoundTexture, ClientScript, Scene, State, TexMode};
-use dri_texheap::Run;
+use dri_texheap::{Run, Spot, small_blocks};
 
 // The texture that triangles are textured with: the bound one, where the texture mode isn't off.
 fn textured_with(state: &State) -> Option<u32>
@@ -33,8 +33,15 @@ impl ClientPart {
         textured_with(&self.context.state())
     }
 
+    /// How many bytes a region has.
+    pub fn region_size(&self) -> u32
+        ensures { result ≡ self.now.placed.region_size }
+    {
+        self.placed.region_size()
+    }
+
     /// Where a texture is placed: `None` where it isn't, or where there is no such texture.
-    pub fn resident(&self, texture: u32) -> Option<Run>
+    pub fn resident(&self, texture: u32) -> Option<Spot>
         ensures { result ≡ placed_of self.now.placed texture }
     {
         self.placed.resident(texture)
@@ -51,14 +58,43 @@ impl ClientPart {
         }
     }
 
-    /// Where the texture that its triangles need is placed.
-    pub fn used_run(&self) -> Option<Run>
-        ensures { result ≡ run_used self.now }
+    // Where the texture stands that its triangles need.
+    pub(crate) fn used_spot(&self) -> Option<Spot>
+        ensures { result ≡ spot_used self.now }
     {
         match self.texture_used() {
             Some(texture) => self.placed.resident(texture),
             None => None,
         }
+    }
+
+    /// The regions of the texture that its triangles need.
+    pub fn used_run(&self) -> Option<Run>
+        ensures { result ≡ run_used self.now }
+    {
+        match self.used_spot() {
+            Some(spot) => Some(spot.run),
+            None => None,
+        }
+    }
+
+    // The blocks that a texture takes in a shared region: 0 where it isn't small.
+    pub(crate) fn blocks(&self, script: &ClientScript, texture: u32) -> u32
+        ensures { result ≡ blocks_of self.now.placed.region_size script.now texture }
+    {
+        small_blocks(self.region_size(), bytes_in(script, texture))
+    }
+
+    /// The room for a texture of its script in its shared regions, whose bytes are those that `new` was given: only for a
+    /// small one, above the level of the region with the lowest number where it fits.
+    pub fn room(&self, script: &ClientScript, texture: u32) -> Option<Spot>
+        ensures { result ≡ room_of self.now.placed.region_size script.now self.now texture }
+    {
+        let blocks = self.blocks(script, texture);
+        if blocks == 0 {
+            return None;
+        }
+        self.placed.room(blocks)
     }
 
     /// Whether its triangles need no texture, or the one that they need is placed.
@@ -83,15 +119,15 @@ impl ClientPart {
         requires card { CardInRange scene.now }
         requires script { IsScript script.now }
         requires kept { IsKept script.now scene.now.regions self.now }
-        ensures bound { result ≡ bound_at scene.now.region_size (texture_bound script.now.textures self.now.state.bound) (run_of (placed_of self.now.placed) self.now.state.bound) }
+        ensures bound { result ≡ bound_at scene.now.region_size (texture_bound script.now.textures self.now.state.bound) (spot_of (placed_of self.now.placed) self.now.state.bound) }
         ensures in_range { IsBoundInRange result }
     {
         let number = self.context.state().bound?;
         let shape = shape_in(script.textures.as_slice(), number)?;
-        let run = self.placed.resident(number)?;
+        let spot = self.placed.resident(number)?;
         Some(BoundTexture {
             shape,
-            base: run.first * scene.region_size,
+            base: spot.base(scene.region_size),
         })
     }
 }

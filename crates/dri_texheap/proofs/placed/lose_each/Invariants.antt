@@ -5,4 +5,4 @@ use Rattle.dri_texheap.specs.RegionStates.{heap_of}
 use Rattle.dri_texheap.proofs.placed.lose_each.Given as goal
 
 abbrev pub invariant-loop-slot : goal.invariant-loop-slot
-invariant-loop-slot l = (k : ℕ) → get_or l.runs k None ≡ (if nat_lt k l.slot-index then lose (is_newer (heap_of l.regions) l.local) (get_or l.fn.runs k None) else get_or l.fn.runs k None)
+invariant-loop-slot l = (k : ℕ) → get_or l.spots k None ≡ (if nat_lt k l.slot-index then lose (is_newer (heap_of l.regions) l.local) (get_or l.fn.spots k None) else get_or l.fn.spots k None)

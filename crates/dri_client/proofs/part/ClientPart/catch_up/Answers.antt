@@ -1,10 +1,11 @@
-use Rattle.std.proofs.Common.{◌∙◌, ap, subst, sym}
+use Rattle.std.proofs.Common.{◌≤◌, ◌∙◌, ap, subst, sym}
 use Rattle.dri_base.specs.declared.state.State.{State}
 use Rattle.dri_model.specs.Groups.{all_where, with_bound}
 use Rattle.dri_model.specs.Heaps.{is_newer}
 use Rattle.dri_texheap.specs.Placements.{AreInside, is_bound_lost}
 use Rattle.dri_texheap.specs.RegionStates.{heap_of}
-use Rattle.dri_texheap.proofs.Losing.{inside_lost}
+use Rattle.dri_texheap.proofs.Losing.{each_lost}
+use Rattle.dri_client.proofs.Standing.{lost_inside}
 use Rattle.dri_client.specs.Kept.{IsKept, state_of}
 use Rattle.dri_client.specs.Parts.{PartState, private_of}
 use Rattle.dri_client.specs.Steps.{caught_up}
@@ -24,6 +25,7 @@ returns-clause-part c = λ copy origin.
       state = c.mark.ensures.state i;
       dirty = (c.mark.ensures.dirty ∙ ap (λ b. with_bound b (all_where owner m.dirty)) lost) i;
       placed = c.lose-is_lost.ensures.placed i;
+      levels = c.lose-is_lost.ensures.levels i;
       local = c.age-self-inside.ensures.age i;
     }) ∙ ap (λ (p : PartState). caught_up (heap_of c.args.regions.now) owner (private_of p copy origin)) c.self.view_is
 
@@ -35,5 +37,6 @@ returns-clause-kept c = λ script n kept.
       within = old.within;
       more = old.more;
       bound = λ t e. old.bound t (sym (ap (λ (s : State). s.bound) c.mark.ensures.state) ∙ e);
-      inside = inside_lost n (is_newer (heap_of c.args.regions.now) c.self.inside.local) _ _ old.inside c.lose-is_lost.ensures.placed;
+      inside = lost_inside n (is_newer (heap_of c.args.regions.now) c.self.inside.local) _ _ old.inside c.lose-is_lost.ensures.placed c.lose-is_lost.ensures.levels;
+      blocks = each_lost (λ spot. spot.block ≤ 1024) (is_newer (heap_of c.args.regions.now) c.self.inside.local) _ _ old.blocks c.lose-is_lost.ensures.placed;
     }

@@ -9,7 +9,7 @@ use Rattle.dri_client.proofs.part.ClientPart.change.Goals as goal
 pub returns-in-Triangle : goal.returns-in-Triangle
 returns-in-Triangle c =
     let h = heap_of c.args.regions.now in
-    let uses = c.is_some-is_used.ensures ∙ ap is_some c.used_run.ensures in
+    let uses = c.is_some-is_used.ensures ∙ ap is_some c.used_spot.ensures in
     let local = c.age_known-self-inside.result in
     ap (λ (p : PartState). record p { local = local }) c.self.view_is
     ∙ changed_triangle c.args.self.now c.args.command.now c.in-Triangle.field-0 h local c.in-Triangle.is (c.age_known-self-inside.ensures ∙ λ i. age_known h (c.self.view_is i).local (uses i))
