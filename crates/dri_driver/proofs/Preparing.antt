@@ -10,21 +10,21 @@ use Rattle.dri_base.specs.declared.journal.Event.TheVariants as Event_is
 use Rattle.dri_base.specs.declared.scene.Scene.{Scene}
 use Rattle.dri_base.specs.declared.state.State.{State}
 use Rattle.dri_base.specs.declared.texture.BoundTexture.{BoundTexture}
-use Rattle.dri_core.specs.Effects.{placed_by, run_at}
-use Rattle.dri_core.specs.EntryTable.{LegalEntry}
+use Rattle.dri_core.specs.Effects.{freed_by, placed_by, run_at, spot_for}
+use Rattle.dri_core.specs.EntryTable.{LegalEntry, after_entry, is_start_for}
 use Rattle.dri_core.specs.Phases.{In}
 use Rattle.dri_core.specs.Runs.{HoldRun, Intact, IsCurrent}
 use Rattle.dri_core.proofs.Laws.{LegalEntries-append}
 use Rattle.dri_core.proofs.Parts.{put_here}
 use Rattle.dri_core.proofs.RunLaws.{acting_current, intact}
-use Rattle.dri_model.specs.Heaps.{Run, allocated, classes_for, freed_for, lowest_place}
+use Rattle.dri_model.specs.Heaps.{Run, Spot, classes_for, lowest_place}
 use Rattle.dri_client.specs.Parts.{Agrees, PartState, part_after, private_of}
 use Rattle.dri_client.specs.Textures.{missing_texture}
 use Rattle.dri_client.proofs.Owned.{missing_parts}
 use Rattle.dri_texheap.specs.Placements.{placed_of}
 use Rattle.dri_texheap.specs.RegionStates.{AreRegionsOf, RegionState, heap_of}
-use Rattle.dri_core.specs.Privates.{Private, bound_texture, is_ready, is_ready_for, is_triangle, own_registers, placed_after, textured_with}
-use Rattle.dri_core.specs.Turns.{emit_turn, triangle_turn}
+use Rattle.dri_core.specs.Privates.{Private, bound_texture, is_ready, is_ready_for, is_triangle, own_registers, placed_after, room_in, textured_with}
+use Rattle.dri_core.specs.Turns.{emit_turn, start_for, triangle_turn}
 use Rattle.dri_core.specs.Worlds.{World, opening}
 use Rattle.dri_core.proofs.EventTurns.{at_triangle, ready_turn}
 use Rattle.dri_model.specs.Groups.{Groups, bits, is_empty, no_groups}
@@ -111,10 +111,10 @@ module _ (k : ClientState) (a b : ClientSide) (fits : Fits k (value_at a)) (acts
     pub current_there : IsCurrent k.scene w k.number
     current_there = subst (λ s. IsCurrent s w k.number) (sym fits.scene) (acting_current (value_at a).scene (value_at a).journal good_there before_run k.number (inl (ap (λ (p : Private). p.phase) (sym fits.part) ∙ acts)))
 
-    pub regions_there : heap_of regions ≡ (world_at b).heap → regions.count ≡ (value_at b).scene.regions → AreRegionsOf k.scene (allocated k.scene.regions w.heap run) regions
+    pub regions_there : heap_of regions ≡ (world_at b).heap → regions.count ≡ (value_at b).scene.regions → AreRegionsOf k.scene (after_entry k.scene w (Entry_is.Place k.number t run.first run.count)).heap regions
     regions_there heap count = record {
       count = count ∙ ap (λ (s : Scene). s.regions) (makes.added.scene ∙ sym fits.scene);
-      ages = heap ∙ (ap (λ (x : World). x.heap) (world_added (value_at a) (value_at b) (Entry_is.Place (client_at a) t run.first run.count) makes.added) ∙ ap (λ (s : Scene). allocated s.regions w.heap run) (sym fits.scene));
+      ages = heap ∙ (ap (λ (x : World). x.heap) (world_added (value_at a) (value_at b) (Entry_is.Place (client_at a) t run.first run.count) makes.added) ∙ (λ i. (after_entry (sym fits.scene i) w (Entry_is.Place (here i) t run.first run.count)).heap));
     }
 
     pub used : textured_with k.state ≡ Some t
@@ -123,18 +123,22 @@ module _ (k : ClientState) (a b : ClientSide) (fits : Fits k (value_at a)) (acts
     pub place_step : (l : ClientState) (e : Entry) → IsSameBut k l → Agrees (kept_of l) (part_after k.scene w (Entry_is.Place k.number t run.first run.count) k.number) → e ≡ Entry_is.Place k.number t run.first run.count → IsStep k l a b e
     place_step l e same agrees entry = subst (λ x. IsStep k l a b x) (sym entry) (record {
       event = at_triangle k.scene w k.number (next_command k) triangle ∙ (ap (triangle_turn k.scene w k.number) legal.1
-          ∙ rw legal.2 (ap (λ n. Some (Event_is.Place k.number t (lowest_place k.scene.regions w.heap n (classes_for k.scene.regions w.heap n)) n)) (sym legal.3) ∙ ap (λ f. Some (Event_is.Place k.number t f run.count)) (sym at_lowest)));
+          ∙ rw legal.2 (ap (λ n. Some (Event_is.Place k.number t (start_for (room_in k.scene k.number (w.client k.number) t) k.scene.regions w.heap n) n)) (sym legal.3) ∙ ap (λ f. Some (Event_is.Place k.number t f run.count)) (sym at_start)));
       own = refl;
       made = made k l a b (Entry_is.Place k.number t run.first run.count) fits (subst (λ n. Makes a b (Entry_is.Place n t run.first run.count)) here makes) same.same part;
       acting = inl (phase ∙ acts);
       falls = omega (arith, before, after, two_most (part_of l) ready, ahead_same k l same.same.scene same.same.number place);
     })
       where
-        at_lowest : run.first ≡ lowest_place k.scene.regions w.heap run.count (classes_for k.scene.regions w.heap run.count)
-        at_lowest = same_number _ _ (and_parts (run.first == lowest_place k.scene.regions w.heap run.count (classes_for k.scene.regions w.heap run.count)) _ legal.4).0
+        at_start : run.first ≡ start_for (room_in k.scene k.number (w.client k.number) t) k.scene.regions w.heap run.count
+        at_start = by_room (room_in k.scene k.number (w.client k.number) t) legal.4
           where
             same_number : (x y : ℕ) → (x == y) ≡ true → x ≡ y
             same_number x y is = grind (arith, nat_tests)
+
+            by_room : (o : Option Spot) → is_start_for o k.scene.regions w.heap run.count run.first ≡ true → run.first ≡ start_for o k.scene.regions w.heap run.count
+            by_room None is = same_number _ _ (and_parts (run.first == lowest_place k.scene.regions w.heap run.count (classes_for k.scene.regions w.heap run.count)) _ is).0
+            by_room (Some room) is = same_number _ _ is
 
         part : part_of l ≡ part_after k.scene w (Entry_is.Place k.number t run.first run.count) k.number
         part = stepped k l w (Entry_is.Place k.number t run.first run.count) fits.part same.clips same.origin (place_copies k.scene w k.number t run.first run.count) agrees
@@ -149,9 +153,9 @@ module _ (k : ClientState) (a b : ClientSide) (fits : Fits k (value_at a)) (acts
         phase = ap (λ (p : Private). p.phase) placed ∙ ap (λ (p : Private). p.phase) (sym fits.part)
 
         ready : is_ready (part_of l) ≡ true
-        ready = ap is_ready placed ∙ (ap (is_ready_for (placed_after (w.client k.number).placed (freed_for k.scene.regions w.heap run.count) t (run_at run.first run.count))) legal.1 ∙ here_it_is)
+        ready = ap is_ready placed ∙ (ap (is_ready_for (placed_after (w.client k.number).placed (freed_by (room_in k.scene k.number (w.client k.number) t) k.scene.regions w.heap run.count) t (spot_for (room_in k.scene k.number (w.client k.number) t) (run_at run.first run.count)))) legal.1 ∙ here_it_is)
           where
-            here_it_is : is_some (placed_after (w.client k.number).placed (freed_for k.scene.regions w.heap run.count) t (run_at run.first run.count) t) ≡ true
+            here_it_is : is_some (placed_after (w.client k.number).placed (freed_by (room_in k.scene k.number (w.client k.number) t) k.scene.regions w.heap run.count) t (spot_for (room_in k.scene k.number (w.client k.number) t) (run_at run.first run.count)) t) ≡ true
             here_it_is = let same : (t == t) ≡ true = grind (arith, nat_tests) in rw same refl
 
         before : entries_left k ≡ 3 + (3 * pred (commands_ahead k) + 1)

@@ -8,9 +8,9 @@ use Rattle.dri_base.specs.Scenes.{command_at, commands_of}
 use Rattle.dri_core.specs.Phases.{Phase}
 use Rattle.dri_core.specs.Privates.{Private}
 use Rattle.dri_model.specs.Groups.{Groups}
-use Rattle.dri_model.specs.Heaps.{Run}
 use Rattle.dri_rect.specs.Pixels.{inside}
 use Rattle.dri_client.specs.Parts.{PartState, private_of}
+use Rattle.dri_texheap.specs.Placements.{Placements}
 
 -- what a client keeps
 pub record ClientState : Type 0 where
@@ -30,8 +30,8 @@ pub record ClientState : Type 0 where
   -- its own drawing state, and the groups of it that the card may not have
   pub state : State
   pub dirty : Groups
-  -- the runs of its textures, from texture 1 on
-  pub placed : List (Option Run)
+  -- where its textures are placed, and the levels of its shared regions
+  pub placed : Placements
   -- the age up to which it knows the regions
   pub local : ℕ
 

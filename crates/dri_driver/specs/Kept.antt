@@ -32,5 +32,7 @@ pub record IsClient (k : ClientState) (index : ℕ) : Type 0 where
   pub there : slice_get k.scene.clients index ≡ Some (script_of k.scene k.number)
   -- the part is its own
   pub kept : IsKept (script_of k.scene k.number) k.scene.regions (kept_of k)
+  -- its regions have as many bytes as the scene's
+  pub sized : k.placed.region_size ≡ k.scene.region_size
   -- its copy of the clips is one of screen pixels
   pub copy : IsCopyOf k.clips (copy_of k.clips)

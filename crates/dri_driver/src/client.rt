@@ -88,7 +88,7 @@ impl Client {
         let Some(index) = place_of(scene.clients.as_slice(), client) else {
             unreachable!();
         };
-        let part = ClientPart::new(alloc, scene.clients.get(index))?;
+        let part = ClientPart::new(alloc, scene.clients.get(index), scene.region_size)?;
         Ok(Client {
             scene,
             index,

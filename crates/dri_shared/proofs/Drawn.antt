@@ -1,5 +1,5 @@
 -- Drawing in one rectangle more.
-use Rattle.std.proofs.Common.{◌≡◌, ◌-ℤ◌, ℕ, suc, ◌+◌, ℤ, pos, List, [], ◌∷◌, take, Bool, true, false, ◌||◌, if◌then◌else◌, Some, slice_get, refl, ◌∙◌, sym, ap, subst, arith, Result, Ok, Err, IsOk, OnOk}
+use Rattle.std.proofs.Common.{◌≡◌, ◌≤◌, ◌-ℤ◌, ℕ, suc, ◌+◌, ℤ, pos, List, [], ◌∷◌, take, Bool, true, false, ◌||◌, if◌then◌else◌, Some, slice_get, refl, ◌∙◌, sym, ap, subst, arith, Result, Ok, Err, IsOk, OnOk}
 use Rattle.std.proofs.lemmas.Bool.Decides.{nat_tests}
 use Rattle.dri_base.specs.declared.colour.Pixel.{Pixel}
 use Rattle.dri_base.specs.declared.colour.Rgb.{Rgb}
@@ -8,9 +8,9 @@ use Rattle.dri_base.specs.declared.shape.Point.{Point}
 use Rattle.dri_base.specs.declared.shape.Rect.{Rect}
 use Rattle.dri_base.specs.declared.shape.Triangle.{Triangle}
 use Rattle.dri_card.specs.Contents.{Contents, HaveSides, Holds, KeepSides, Shows}
-use Rattle.dri_card.specs.Drawing.{OnlyDrawn, OnlyShown, after_triangle, cleared, drawn, swapped}
+use Rattle.dri_card.specs.Drawing.{OnlyCarried, OnlyDrawn, OnlyShown, after_triangle, cleared, drawn, swapped}
 use Rattle.dri_rect.specs.Pixels.{inside, has_pixel}
-use Rattle.dri_shared.specs.Drawing.{OnlyDrawnOn, cleared_in, drawn_in, in_clips, swapped_in}
+use Rattle.dri_shared.specs.Drawing.{IsScreen, OnlyDrawnOn, cleared_in, drawn_in, in_clips, swapped_in}
 use Rattle.dri_shared.proofs.Rects.{IsSameRect, inside_more, same_pixels}
 
 -- a fact of the case that it is
@@ -41,6 +41,36 @@ holds_shown a b f only h = record { colours = rw (ap {A = Contents} (λ v. v.bac
 
 pub holds_clipped : (a b : Contents) (c : ClipRect) (f : ℕ → ℕ → Pixel) → b ≡ record a { clip = c } → Holds a f → Holds b f
 holds_clipped a b c f is h = record { colours = rw (ap {A = Contents} (λ v. v.back) is) h.colours; depths = rw (ap {A = Contents} (λ v. v.depth) is) h.depths }
+
+-- only the planes change where only front does after that
+pub planes_shown : (a b c : Contents) → OnlyCarried a b → OnlyShown b c → OnlyCarried a c
+planes_shown a b c planes only =
+    let e : c ≡ record a { front = c.front; back = b.back; depth = b.depth } = only ∙ ap {A = Contents} (λ v. record v { front = c.front }) planes in
+    e ∙ (λ i. record a { front = c.front; back = back i; depth = depth i })
+  where
+    back : b.back ≡ c.back
+    back = sym (ap {A = Contents} (λ v. v.back) only)
+
+    depth : b.depth ≡ c.depth
+    depth = sym (ap {A = Contents} (λ v. v.depth) only)
+
+-- a screen stays one where the sides do
+pub screen_kept : (a b : Contents) → IsScreen a → KeepSides a b → IsScreen b
+screen_kept a b screen keep = record {
+  sides = record {
+    front_width = refl;
+    front_height = refl;
+    back_width = s.back_width ∙ sym s.front_width;
+    back_height = s.back_height ∙ sym s.front_height;
+    depth_width = s.depth_width ∙ sym s.front_width;
+    depth_height = s.depth_height ∙ sym s.front_height;
+  };
+  wide = subst (λ n. n ≤ 1024) (sym s.front_width) screen.wide;
+  high = subst (λ n. n ≤ 1024) (sym s.front_height) screen.high;
+}
+  where
+    s : HaveSides b a.front.width a.front.height
+    s = keep a.front.width a.front.height screen.sides
 
 -- the sides of a screen's planes
 pub screen_sides : (v : Contents) (width height : ℕ) → HaveSides v v.front.width v.front.height → v.front.width ≡ width → v.front.height ≡ height → HaveSides v width height

@@ -10,7 +10,7 @@ use Rattle.dri_texheap.specs.RegionStates.{RegionState, heap_of}
 
 -- the value of a scene at the opening
 pub opened : (s : Scene) (card : Contents) (board : Screen) (regions : RegionState) (places : List ℕ) → InRange s → IsOpening s card → Boards.IsOpening s board →
-    heap_of regions ≡ record { global = 0; used = λ k. false; age = λ k. 0 } → regions.count ≡ s.regions → length places ≡ 33 → ((c : ℕ) → c < 33 → slice_index_or places c 0 ≡ 1) →
+    heap_of regions ≡ record { global = 0; used = λ k. false; shared = λ k. false; age = λ k. 0 } → regions.count ≡ s.regions → length places ≡ 33 → ((c : ℕ) → c < 33 → slice_index_or places c 0 ≡ 1) →
     IsFaithful s [] (record { card = card; board = board; regions = regions; places = places; owner = 0; holder = None; left = 1; made = 0 })
 opened s card board regions places good c b heap count room each = record {
   scene = good;

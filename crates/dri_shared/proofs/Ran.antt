@@ -16,10 +16,10 @@ use Rattle.dri_card.specs.Contents.{Contents, Holds, KeepSides, Shows, memory_of
 use Rattle.dri_card.specs.Drawing.{OnlyDrawn, OnlyShown}
 use Rattle.dri_core.specs.Effects.{back_after, front_after, heap_after, only_where, run_by}
 use Rattle.dri_core.specs.EntryTable.{after_entry}
-use Rattle.dri_core.specs.Privates.{used_run}
+use Rattle.dri_core.specs.Privates.{run_in, used_run, used_spot}
 use Rattle.dri_core.specs.Solo.{drawn_by, is_swap}
 use Rattle.dri_core.specs.Worlds.{World}
-use Rattle.dri_model.specs.Heaps.{Heap, Run as RunOf}
+use Rattle.dri_model.specs.Heaps.{Heap, Run as RunOf, Spot}
 use Rattle.dri_model.specs.Words.{card_image, rules_in}
 use Rattle.dri_shared.specs.Commands.{is_setting, is_yield}
 use Rattle.dri_shared.specs.Copies.{IsCopyOf, corner}
@@ -35,7 +35,7 @@ module _ (s : Scene) (h : Holdings) (w : World) (c i : ℕ) (is : IsWorld s h w)
   -- the run of command i, by what it makes of the card and of the regions
   pub ran : (card : Contents) (regions : RegionState) →
       IsCardOf s (front_after w (w.client c).copy (command_at s c i)) (back_after w (w.client c) (command_at s c i)) w.registers w.memory card →
-      AreRegionsOf s (heap_after w.heap (used_run (w.client c)) (command_at s c i)) regions →
+      AreRegionsOf s (heap_after w.heap (used_spot (w.client c)) (command_at s c i)) regions →
       IsWorld s (record h { card = card; regions = regions; places = slice_set h.places c (i + 1) }) (after_entry s w (Run c i))
   ran card regions cards heaps = record {
     card = cards;
@@ -93,23 +93,23 @@ swap_is (Some Die) e = absurd (true≢false (sym e))
 swap_is None e = absurd (true≢false (sym e))
 
 -- the regions are used by triangles alone
-heap_set : (h : Heap) (r : Option RunOf) (v : Setting) → h ≡ heap_after h r (Some (Set v))
+heap_set : (h : Heap) (r : Option Spot) (v : Setting) → h ≡ heap_after h r (Some (Set v))
 heap_set h None v = refl
 heap_set h (Some r) v = refl
 
-heap_clear : (h : Heap) (r : Option RunOf) (colour : Rgb) (depth : ℕ) → h ≡ heap_after h r (Some (Clear colour depth))
+heap_clear : (h : Heap) (r : Option Spot) (colour : Rgb) (depth : ℕ) → h ≡ heap_after h r (Some (Clear colour depth))
 heap_clear h None colour depth = refl
 heap_clear h (Some r) colour depth = refl
 
-heap_swap : (h : Heap) (r : Option RunOf) → h ≡ heap_after h r (Some Swap)
+heap_swap : (h : Heap) (r : Option Spot) → h ≡ heap_after h r (Some Swap)
 heap_swap h None = refl
 heap_swap h (Some r) = refl
 
-heap_yield : (h : Heap) (r : Option RunOf) → h ≡ heap_after h r (Some Yield)
+heap_yield : (h : Heap) (r : Option Spot) → h ≡ heap_after h r (Some Yield)
 heap_yield h None = refl
 heap_yield h (Some r) = refl
 
-heap_triangle : (h : Heap) (r : Option RunOf) (t : TriangleShape) → touched_by_use r h ≡ heap_after h r (Some (Triangle t))
+heap_triangle : (h : Heap) (r : Option Spot) (t : TriangleShape) → touched_by_use (run_in r) h ≡ heap_after h r (Some (Triangle t))
 heap_triangle h None t = refl
 heap_triangle h (Some r) t = refl
 
@@ -126,12 +126,12 @@ module _ (s : Scene) (h : Holdings) (w : World) (c i : ℕ) (is : IsWorld s h w)
   pub ran_setting : is_setting (command_at s c i) ≡ true → IsWorld s (record h { places = slice_set h.places c (i + 1) }) (after_entry s w (Run c i))
   ran_setting e = let v = setting_is (command_at s c i) e in ran s h w c i is below h.card h.regions
       (card_same s h.card w.front (front_after w (w.client c).copy (command_at s c i)) w.back (back_after w (w.client c) (command_at s c i)) w is.card (λ x y. rw v.1 refl) (λ x y. rw v.1 (same_where ((w.client c).copy x y) (w.back x y))))
-      (record { count = is.regions.count; ages = is.regions.ages ∙ rw v.1 (heap_set w.heap (used_run (w.client c)) v.0) })
+      (record { count = is.regions.count; ages = is.regions.ages ∙ rw v.1 (heap_set w.heap (used_spot (w.client c)) v.0) })
 
   pub ran_yield : is_yield (command_at s c i) ≡ true → IsWorld s (record h { places = slice_set h.places c (i + 1) }) (after_entry s w (Run c i))
   ran_yield e = let v = yield_is (command_at s c i) e in ran s h w c i is below h.card h.regions
       (card_same s h.card w.front (front_after w (w.client c).copy (command_at s c i)) w.back (back_after w (w.client c) (command_at s c i)) w is.card (λ x y. rw v refl) (λ x y. rw v (same_where ((w.client c).copy x y) (w.back x y))))
-      (record { count = is.regions.count; ages = is.regions.ages ∙ rw v (heap_yield w.heap (used_run (w.client c))) })
+      (record { count = is.regions.count; ages = is.regions.ages ∙ rw v (heap_yield w.heap (used_spot (w.client c))) })
 
   -- a clear in the client's clips
   pub ran_clear : (colour : Rgb) (depth : ℕ) (clips : List Rect) (card : Contents) → command_at s c i ≡ Some (Clear colour depth) → IsCopyOf clips (w.client c).copy →
@@ -146,7 +146,7 @@ module _ (s : Scene) (h : Holdings) (w : World) (c i : ℕ) (is : IsWorld s h w)
         bytes = ap {A = Contents} (λ v. length v.memory) only ∙ is.card.bytes;
         uploads = ap {A = Contents} (λ v. memory_of v) only ∙ is.card.uploads;
       })
-      (record { count = is.regions.count; ages = is.regions.ages ∙ rw e (heap_clear w.heap (used_run (w.client c)) colour depth) })
+      (record { count = is.regions.count; ages = is.regions.ages ∙ rw e (heap_clear w.heap (used_spot (w.client c)) colour depth) })
 
   -- a swap in the client's clips
   pub ran_swap : (clips : List Rect) (card : Contents) → is_swap (command_at s c i) ≡ true → IsCopyOf clips (w.client c).copy →
@@ -161,7 +161,7 @@ module _ (s : Scene) (h : Holdings) (w : World) (c i : ℕ) (is : IsWorld s h w)
         bytes = ap {A = Contents} (λ v. length v.memory) only ∙ is.card.bytes;
         uploads = ap {A = Contents} (λ v. memory_of v) only ∙ is.card.uploads;
       })
-      (record { count = is.regions.count; ages = is.regions.ages ∙ rw v (heap_swap w.heap (used_run (w.client c))) })
+      (record { count = is.regions.count; ages = is.regions.ages ∙ rw v (heap_swap w.heap (used_spot (w.client c))) })
 
   -- a triangle in the client's clips
   pub ran_triangle : (t : TriangleShape) (clips : List Rect) (o : Point) (r : Option RunOf) (card : Contents) (regions : RegionState) → command_at s c i ≡ Some (Triangle t) →
@@ -178,7 +178,7 @@ module _ (s : Scene) (h : Holdings) (w : World) (c i : ℕ) (is : IsWorld s h w)
         bytes = ap {A = Contents} (λ v. length v.memory) only ∙ is.card.bytes;
         uploads = ap {A = Contents} (λ v. memory_of v) only ∙ is.card.uploads;
       })
-      (record { count = count ∙ is.regions.count; ages = ages ∙ (ap (λ (k : Heap). touched_by_use r k) is.regions.ages ∙ (ap (λ (q : Option RunOf). touched_by_use q w.heap) used ∙ rw e (heap_triangle w.heap (used_run (w.client c)) t))) })
+      (record { count = count ∙ is.regions.count; ages = ages ∙ (ap (λ (k : Heap). touched_by_use r k) is.regions.ages ∙ (ap (λ (q : Option RunOf). touched_by_use q w.heap) used ∙ rw e (heap_triangle w.heap (used_spot (w.client c)) t))) })
     where
       drawn_at : (x y : ℕ) → drawn_in h.card o t clips w.back x y ≡ back_after w (w.client c) (command_at s c i) x y
       drawn_at x y = rw (e, in_copy clips (w.client c).copy x y copy, place, is.card.loaded, is.card.uploads)

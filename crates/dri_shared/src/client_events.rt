@@ -1,24 +1,38 @@
 //! A client's events but for the runs of commands: each puts its entry last in the journal, and makes of the holdings
 //! what the entry makes of the world. A call reborrows the shared value first, whose fields it then reaches.
 
-ghost use Rattle.std.specs.Prelude.{◌≡◌, ◌≤◌, ◌+◌, ◌==◌, not};
+ghost use Rattle.std.specs.Prelude.{◌≡◌, ◌≤◌, ◌<◌, ◌+◌, ◌==◌, not};
 ghost use Rattle.dri_base.specs.declared.journal.Entry.TheVariants.{Light, Kernel, Stale, Emit, Place, Leave};
 ghost use Rattle.dri_base.specs.Scenes.{window_of};
-ghost use Rattle.dri_core.specs.Privates.{own_registers};
+ghost use Rattle.dri_core.specs.Effects.{spot_for};
+ghost use Rattle.dri_core.specs.Privates.{own_registers, room_in};
 ghost use Rattle.dri_core.specs.Runs.{HoldRun};
 ghost use Rattle.dri_model.specs.Groups.{bits};
 ghost use Rattle.dri_model.specs.Words.{register_words};
 ghost use Rattle.dri_shared.specs.Commands.{WantsPlace};
 ghost use Rattle.dri_shared.specs.Sides.{Makes, MayMake, client_at, part_at, value_at, world_at};
-ghost use Rattle.dri_texheap.specs.RegionStates.{heap_of};
+ghost use Rattle.dri_texheap.specs.RegionStates.{IsInside, heap_of};
 
 use crate::answers::Taken;
 use crate::client_side::ClientSide;
-use crate::scripts::{regions_for, texture_bytes, window_of};
+use crate::scripts::{texture_bytes, window_of};
 use crate::shared::Shared;
 use dri_base::Entry;
+use dri_client::stand;
 use dri_context::Groups;
-use dri_texheap::{Regions, Run};
+use dri_texheap::{Regions, Spot};
+
+/// The entry of a client's texture that is placed there.
+pub fn place_entry(client: u32, texture: u32, spot: &Spot) -> Entry
+    ensures { result ≡ Place client texture spot.now.run.first spot.now.run.count }
+{
+    Entry::Place {
+        client,
+        texture,
+        first: spot.run.first,
+        count: spot.run.count,
+    }
+}
 
 impl ClientSide<'_> {
     /// The client takes the lock by the light exchange.
@@ -71,35 +85,29 @@ impl ClientSide<'_> {
         shared.journal.push_reserved(Entry::Stale { client });
     }
 
-    /// Regions are allocated for a texture of the client, and its bytes are uploaded there. The next command is a
-    /// triangle that is textured with this texture, which isn't placed.
-    pub fn place(&mut self, texture: u32) -> Run
+    /// A texture of the client is put into the room that its shared regions have for it, or else into regions that are
+    /// allocated for it, and its bytes are uploaded there. The next command is a triangle that is textured with this
+    /// texture, which isn't placed. `room` is what `Placed::room` gives for a small texture, and `None` for another.
+    pub fn place(&mut self, texture: u32, room: Option<Spot>) -> Spot
         requires room { 1 ≤ (value_at self.old).spare }
         requires wanted { WantsPlace (value_at self.old).scene (world_at self.old) (client_at self.old) texture }
-        ensures legal { MayMake self.old (Place (client_at self.old) texture result.first result.count) }
-        ensures made { Makes self.old self.new (Place (client_at self.old) texture result.first result.count) }
+        requires shared { room ≡ room_in (value_at self.old).scene (client_at self.old) (part_at self.old) texture }
+        ensures legal { MayMake self.old (Place (client_at self.old) texture result.run.first result.run.count) }
+        ensures spot { result ≡ spot_for room result.run }
+        ensures inside { IsInside (value_at self.old).scene.regions result.run }
+        ensures some { 0 < result.run.count }
+        ensures made { Makes self.old self.new (Place (client_at self.old) texture result.run.first result.run.count) }
     {
         let client = self.client;
         let shared = &mut *self.shared;
         let size = shared.scene.region_size;
         let bytes = texture_bytes(&shared.scene, client, texture);
-        let run = shared
-            .holdings
-            .regions
-            .allocate(regions_for(size, bytes.len() as u32))
-            .unwrap();
-        shared
-            .holdings
-            .card
-            .upload(run.first * size, bytes)
-            .unwrap();
-        shared.journal.push_reserved(Entry::Place {
-            client,
-            texture,
-            first: run.first,
-            count: run.count,
-        });
-        run
+        let regions = &mut shared.holdings.regions;
+        let spot = stand(regions, room, size, bytes.len() as u32);
+        shared.holdings.card.upload(spot.base(size), bytes).unwrap();
+        let entry = place_entry(client, texture, &spot);
+        shared.journal.push_reserved(entry);
+        spot
     }
 
     /// The card's registers of these groups are loaded. `groups` is the set of the client's dirty groups, and `words` are

@@ -19,6 +19,7 @@ mod serving;
 mod shared;
 
 pub use answers::{Taken, Told};
+pub use client_events::place_entry;
 pub use client_side::ClientSide;
 pub use server_side::ServerSide;
 pub use shared::Shared;

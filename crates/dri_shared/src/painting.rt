@@ -1,22 +1,40 @@
-//! Painting front where a new stack has changed the topmost window, and the board's changes with their paints.
+//! What a new stack leaves on the card: a moved window takes along what it shows, and then front is painted where the
+//! topmost window has changed. And the board's changes with that.
 
-ghost use Rattle.std.specs.Prelude.{◌≡◌, ◌≢◌, ◌≤◌, ℕ, All, OnOk, OnErr};
+ghost use Rattle.std.specs.Prelude.{◌≡◌, ◌≢◌, ◌≤◌, ◌+◌, ◌*◌, ℕ, None, All, IfSome, OnOk, OnErr};
+ghost use Rattle.dri_base.specs.declared.colour.Pixel.{Pixel};
 ghost use Rattle.dri_base.specs.declared.colour.Rgb.{Rgb};
 ghost use Rattle.dri_base.specs.Limits.{last_stamp};
-ghost use Rattle.dri_card.specs.Contents.{KeepSides, Shows};
-ghost use Rattle.dri_card.specs.Drawing.{OnlyShown};
-ghost use Rattle.dri_clips.specs.Boards.{IsRestacked};
+ghost use Rattle.dri_card.specs.Contents.{Holds, KeepSides, Shows};
+ghost use Rattle.dri_card.specs.Drawing.{OnlyCarried, OnlyShown};
 ghost use Rattle.dri_clips.specs.Paints.{IsOnScreen, filled};
 ghost use Rattle.dri_clips.specs.declared.change.ChangeFault.{ChangeFault};
-ghost use Rattle.dri_model.specs.Stacks.{painted, stack_after, without_owner};
-ghost use Rattle.dri_shared.specs.Drawing.{IsScreen};
+ghost use Rattle.dri_model.specs.Stacks.{moved_by, stack_after, without_owner};
+ghost use Rattle.dri_shared.specs.Drawing.{CanCarry, IsScreen, accesses, carried_along, carry_accesses, painted_pixels};
 ghost use Rattle.dri_shared.specs.Holdings.{IsRestackedOn};
 
 use dri_base::{Change, OutOfMemory, Steps};
 use dri_card::Card;
-use dri_clips::{Board, ChangeFault, Paint};
+use dri_clips::{Board, ChangeFault, Paint, Touched};
 use std::alloc::Global;
 use std::sync::ledger::{Blank, Ledger};
+
+/// Takes along what a moved window carries, if there is something: front, and back with its depth.
+fn carry_along<L: Ledger>(card: &mut Card, touched: &Touched, steps: &mut Steps<L>)
+    requires { IfSome touched.now.carry (CanCarry card.old) }
+    ensures shown { (front : ℕ → ℕ → Rgb) → Shows card.old front → Shows card.new (carried_along touched.now.carry front) }
+    ensures held { (back : ℕ → ℕ → Pixel) → Holds card.old back → Holds card.new (carried_along touched.now.carry back) }
+    ensures others { OnlyCarried card.old card.new }
+    ensures sides { KeepSides card.old card.new }
+    ensures cost { steps.new ≡ steps.old + carry_accesses touched.now.carry }
+{
+    match &touched.carry {
+        None => {}
+        Some(carry) => card
+            .carry(carry.rects.as_slice(), carry.dx, carry.dy, steps)
+            .unwrap(),
+    }
+}
 
 /// Makes the paints in front, one after the other.
 fn paint<L: Ledger>(card: &mut Card, paints: &[Paint], steps: &mut Steps<L>)
@@ -25,10 +43,28 @@ fn paint<L: Ledger>(card: &mut Card, paints: &[Paint], steps: &mut Steps<L>)
     ensures shown { (front : ℕ → ℕ → Rgb) → Shows card.old front → Shows card.new (filled paints.now front) }
     ensures others { OnlyShown card.old card.new }
     ensures sides { KeepSides card.old card.new }
+    ensures cost { steps.new ≡ steps.old + painted_pixels paints.now }
 {
     for paint in paints {
         card.paint(paint.rect, paint.colour, steps).unwrap();
     }
+}
+
+/// Takes along what a moved window carries, and then makes the paints: so a pixel that the window left is painted only
+/// once what stood there was carried. A step is an access of a plane: it takes two for each carried pixel in each plane,
+/// and one for each painted pixel.
+fn show<L: Ledger>(card: &mut Card, touched: &Touched, steps: &mut Steps<L>)
+    requires screen { IsScreen card.old }
+    requires carry { IfSome touched.now.carry (CanCarry card.old) }
+    requires paints { All (λ p. IsOnScreen card.old.front.width card.old.front.height p.rect) touched.now.paints }
+    ensures shown { (front : ℕ → ℕ → Rgb) → Shows card.old front → Shows card.new (filled touched.now.paints (carried_along touched.now.carry front)) }
+    ensures held { (back : ℕ → ℕ → Pixel) → Holds card.old back → Holds card.new (carried_along touched.now.carry back) }
+    ensures others { OnlyCarried card.old card.new }
+    ensures sides { KeepSides card.old card.new }
+    ensures cost { steps.new ≡ steps.old + accesses touched.now }
+{
+    carry_along(card, touched, steps);
+    paint(card, touched.paints.as_slice(), steps);
 }
 
 /// Why a change wasn't made: a refusal by the board is as good as done, want of memory isn't.
@@ -41,8 +77,8 @@ fn refused(fault: ChangeFault) -> Result<(), OutOfMemory>
     }
 }
 
-/// Makes a change of the windows, and paints front. One that the board refuses changes nothing. The steps are counted from
-/// the blank on.
+/// Makes a change of the windows, on the board and on the card. One that the board refuses changes nothing. The steps are
+/// counted from the blank on.
 pub(crate) fn change_windows<L: Ledger>(
     blank: Blank,
     alloc: Global,
@@ -57,20 +93,21 @@ pub(crate) fn change_windows<L: Ledger>(
     requires screen { IsScreen card.old }
     requires width { card.old.front.width ≡ board.old.width }
     requires height { card.old.front.height ≡ board.old.height }
-    ensures ok { OnOk result (IsRestackedOn (stack_after change.now board.old.stack) board.old board.new card.old card.new) }
+    ensures ok { OnOk result (IsRestackedOn (stack_after change.now board.old.stack) (moved_by change.now board.old.stack) board.old board.new card.old card.new) }
     ensures err { OnErr result ((board.new ≡ board.old) × (card.new ≡ card.old)) }
 {
     let mut steps = Steps::<L>::new(blank);
     match board.apply(alloc, change, &mut steps) {
         Ok(touched) => {
-            paint(card, touched.paints.as_slice(), &mut steps);
+            show(card, &touched, &mut steps);
             Ok(())
         }
         Err(fault) => refused(fault),
     }
 }
 
-/// Unmaps the windows of an owner, and paints front. The steps are counted from the blank on.
+/// Unmaps the windows of an owner, on the board and on the card. Nothing is carried. The steps are counted from the blank
+/// on.
 pub(crate) fn unmap_windows<L: Ledger>(
     blank: Blank,
     alloc: Global,
@@ -85,11 +122,11 @@ pub(crate) fn unmap_windows<L: Ledger>(
     requires screen { IsScreen card.old }
     requires width { card.old.front.width ≡ board.old.width }
     requires height { card.old.front.height ≡ board.old.height }
-    ensures ok { OnOk result (IsRestackedOn (without_owner owner board.old.stack) board.old board.new card.old card.new) }
+    ensures ok { OnOk result (IsRestackedOn (without_owner owner board.old.stack) None board.old board.new card.old card.new) }
     ensures err { OnErr result ((board.new ≡ board.old) × (card.new ≡ card.old)) }
 {
     let mut steps = Steps::<L>::new(blank);
     let touched = board.unmap_owner(alloc, owner, &mut steps)?;
-    paint(card, touched.paints.as_slice(), &mut steps);
+    show(card, &touched, &mut steps);
     Ok(())
 }

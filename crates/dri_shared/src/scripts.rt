@@ -1,7 +1,7 @@
 //! What the shared value reads in the scene: a client's script, its commands and its textures.
 
 ghost use Rattle.std.specs.Prelude.{◌≡◌, ◌<◌, ◌≤◌, ◌+◌, [], length, pred, slice_get, true, Some, None, IfSome, IfNone};
-ghost use Rattle.dri_base.specs.Scenes.{bytes_of, command_at, regions_for, script_in, textures_of, window_of};
+ghost use Rattle.dri_base.specs.Scenes.{bytes_of, command_at, script_in, textures_of, window_of};
 ghost use Rattle.dri_base.specs.Texels.{texture_in};
 ghost use Rattle.dri_base.specs.declared.command.Command.TheVariants as Command;
 ghost use Rattle.dri_core.specs.Privates.{is_triangle};
@@ -92,14 +92,4 @@ pub(crate) fn texture_bytes(scene: &Scene, client: u32, number: u32) -> &[u8]
         Some(texture) => texture.bytes.as_slice(),
         None => &[],
     }
-}
-
-/// The regions of a size, 1 to 65,536 bytes, that so many bytes take, at most 4,194,304.
-pub(crate) fn regions_for(size: u32, bytes: u32) -> u32
-    requires some { 0 < size }
-    requires size { size ≤ 65536 }
-    requires bytes { bytes ≤ 4194304 }
-    ensures { result ≡ regions_for size bytes }
-{
-    (bytes + (size - 1)) / size
 }

@@ -90,7 +90,7 @@ still_acts s w c (Some (Triangle t)) alive = by_texture (textured_with (w.client
     by_texture None = emits
     by_texture (Some u) = by_run ((w.client c).placed u) refl
       where
-        by_run : (o : Option Heaps.Run) → (w.client c).placed u ≡ o → still_of (triangle_turn s w c (Some u)) ≡ true
+        by_run : (o : Option Heaps.Spot) → (w.client c).placed u ≡ o → still_of (triangle_turn s w c (Some u)) ≡ true
         by_run None h = rw h refl
         by_run (Some r) h = rw h emits
 

@@ -63,7 +63,7 @@ acts_of s w c (Some (Triangle t)) = by_texture (textured_with (w.client c).state
     by_texture None = emits
     by_texture (Some u) = by_run ((w.client c).placed u) refl
       where
-        by_run : (o : Option Heaps.Run) → (w.client c).placed u ≡ o → IsOf c (triangle_turn s w c (Some u))
+        by_run : (o : Option Heaps.Spot) → (w.client c).placed u ≡ o → IsOf c (triangle_turn s w c (Some u))
         by_run None h = rw h refl
         by_run (Some r) h = rw h emits
 

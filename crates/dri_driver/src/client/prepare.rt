@@ -12,11 +12,12 @@ ghost use Rattle.dri_driver.specs.Fits.{Fits};
 
 use super::Client;
 use dri_base::Entry;
-use dri_shared::ClientSide;
+use dri_shared::{ClientSide, place_entry};
 
 impl Client {
-    // Places a texture, which its next command needs. Its textures in regions that this frees are lost: these regions
-    // are newer than the age up to which it knew them.
+    // Places a texture, which its next command needs: in the room that its shared regions have for it, or else in regions
+    // that are allocated. Its textures in regions that this frees are lost: these are newer than the age up to which it
+    // knew them.
     pub(super) fn place(&mut self, side: &mut ClientSide<'_>, texture: u32) -> Entry
         requires acting { self.old.phase ≡ In }
         requires client { client_at side.old ≡ self.old.number }
@@ -26,16 +27,12 @@ impl Client {
         requires missing { missing_texture (kept_of self.old) ≡ Some texture }
         ensures { IsStep self.old self.new side.old side.new result }
     {
-        let run = side.place(texture);
         let script = self.scene.clients.get(self.index);
+        let room = self.part.room(script, texture);
+        let spot = side.place(texture, room);
         self.part
-            .place_texture(script, texture, run, side.regions());
-        Entry::Place {
-            client: self.number,
-            texture,
-            first: run.first,
-            count: run.count,
-        }
+            .place_texture(script, texture, &spot, side.regions());
+        place_entry(self.number, texture, &spot)
     }
 
     // Tells the card what is dirty.

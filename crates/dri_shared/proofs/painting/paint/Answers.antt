@@ -2,7 +2,7 @@
 use Rattle.std.proofs.Common.{take, ◌+◌, arith, rules, IsOk}
 use Rattle.dri_clips.specs.Paints.{filled}
 use Rattle.dri_shared.proofs.Drawn.{on_ok, only_shown, shows_same}
-use Rattle.dri_shared.proofs.Painted.{filled_next}
+use Rattle.dri_shared.proofs.Painted.{filled_next, painted_more}
 use Rattle.dri_shared.proofs.painting.paint.Goals as goal
 
 pub loop-paint-preserved : goal.loop-paint-preserved
@@ -12,4 +12,5 @@ loop-paint-preserved g c = let ok : IsOk c.paint.result = search rules in record
       (on_ok c.paint.result _ ok c.paint.ensures.ok (filled (take c.loop-paint.paint-index c.args.paints.now) front) (c.loop-paint.invariant.shown front shows));
   others = only_shown c.args.card.now c.loop-paint.card c.paint.new.self c.loop-paint.invariant.others c.paint.ensures.others;
   sides = λ w h s. c.paint.ensures.sides w h (c.loop-paint.invariant.sides w h s);
+  cost = painted_more c.args.paints.now c.loop-paint.paint-index _ c.args.steps.now c.loop-paint.steps c.paint.new.steps (omega arith) c.loop-paint.invariant.cost (on_ok c.paint.result _ ok c.paint.ensures.cost);
 }

@@ -1,9 +1,10 @@
 -- The paints so far.
-use Rattle.std.proofs.Common.{ℕ, take}
+use Rattle.std.proofs.Common.{ℕ, ◌≡◌, ◌+◌, take}
 use Rattle.dri_base.specs.declared.colour.Rgb.{Rgb}
 use Rattle.dri_card.specs.Contents.{KeepSides, Shows}
 use Rattle.dri_card.specs.Drawing.{OnlyShown}
 use Rattle.dri_clips.specs.Paints.{filled}
+use Rattle.dri_shared.specs.Drawing.{painted_pixels}
 use Rattle.dri_shared.proofs.painting.paint.Given as goal
 
 abbrev pub invariant-loop-paint : goal.invariant-loop-paint
@@ -11,4 +12,5 @@ invariant-loop-paint g l = record {
   shown : (front : ℕ → ℕ → Rgb) → Shows l.fn.card front → Shows l.card (filled (take l.paint-index l.paints) front);
   others : OnlyShown l.fn.card l.card;
   sides : KeepSides l.fn.card l.card;
+  cost : l.steps ≡ l.fn.steps + painted_pixels (take l.paint-index l.paints);
 }

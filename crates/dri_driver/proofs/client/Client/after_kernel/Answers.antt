@@ -19,7 +19,7 @@ one_of false p is = inl is
 pub invariant_of-self : goal.invariant_of-self
 invariant_of-self c =
     let is = c.self.invariant in
-    record { good = is.good; there = is.there; kept = c.kernel-is_stale.ensures.kept _ _ is.kept; copy = is.copy }
+    record { good = is.good; there = is.there; kept = c.kernel-is_stale.ensures.kept _ _ is.kept; sized = c.kernel-is_stale.ensures.size ∙ is.sized; copy = is.copy }
 
 pub returns-clause-made : goal.returns-clause-made
 returns-clause-made c =

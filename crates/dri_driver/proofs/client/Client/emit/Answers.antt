@@ -1,7 +1,7 @@
 use Rattle.std.proofs.Common.{◌≡◌, ◌∙◌, ap, subst, sym}
 use Rattle.dri_base.specs.Texels.{texture_bound}
 use Rattle.dri_base.specs.declared.journal.Entry.TheVariants.{Emit}
-use Rattle.dri_core.specs.Privates.{bound_at, bound_texture, run_of}
+use Rattle.dri_core.specs.Privates.{bound_at, bound_texture, spot_of}
 use Rattle.dri_client.specs.Kept.{IsScript}
 use Rattle.dri_client.specs.Parts.{Agrees, PartState, part_after}
 use Rattle.dri_model.specs.Groups.{bits, no_groups}
@@ -23,7 +23,7 @@ pub emit-requires-clause-words : goal.emit-requires-clause-words
 emit-requires-clause-words c =
     let k = c.args.self.now in
     let scene = c.deref.ensures ∙ ap (λ (x : ClientState). x.scene) c.self.view_is in
-    let bound : c.bound_texture-bound.result ≡ bound_texture k.scene k.number (part_of k) = c.bound_texture-bound.ensures.bound ∙ (λ i. bound_at (scene i).region_size (texture_bound (c.script.ensures i).textures (c.self.view_is i).state.bound) (run_of (placed_of (c.self.view_is i).placed) (c.self.view_is i).state.bound)) in
+    let bound : c.bound_texture-bound.result ≡ bound_texture k.scene k.number (part_of k) = c.bound_texture-bound.ensures.bound ∙ (λ i. bound_at (scene i).region_size (texture_bound (c.script.ensures i).textures (c.self.view_is i).state.bound) (spot_of (placed_of (c.self.view_is i).placed) (c.self.view_is i).state.bound)) in
     let state = ap (λ (p : PartState). p.state) c.emit-groups.ensures.state ∙ ap (λ (x : ClientState). x.state) c.self.view_is in
     words_are k c.args.side.now _ c.emit-groups.result c.emit-groups.new.self.state c.bound_texture-bound.result c.requires.client c.requires.fits (c.words.ensures ∙ c.words-words.ensures) state bound
 

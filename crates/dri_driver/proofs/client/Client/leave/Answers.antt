@@ -28,6 +28,7 @@ invariant_of-self c =
       good = is.good;
       there = is.there;
       kept = subst (λ (t : ClientScript). IsKept t m.scene.regions c.leave-2.new.self) own (c.leave-2.ensures.kept m.scene.regions (subst (λ (t : ClientScript). IsKept t m.scene.regions c.self.inside.part) (sym own) is.kept));
+      sized = c.leave-2.ensures.size ∙ is.sized;
       copy = is.copy;
     }
 

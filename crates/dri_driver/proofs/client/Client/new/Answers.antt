@@ -25,6 +25,7 @@ invariant_of-result c =
       good = c.requires.in_range;
       there = there;
       kept = subst (λ (t : ClientScript). IsKept t s.regions c.in_ok-part.part) script (c.in_ok-part.ensures.kept s.regions);
+      sized = c.in_ok-part.ensures.size ∙ ap (λ (x : Scene). x.region_size) c.deref-3.ensures;
       copy = subst (λ (rs : List Rect). IsCopyOf rs (copy_of rs)) (sym c.no_clips.ensures) copied_none;
     }
 

@@ -26,6 +26,7 @@ invariant_of-self c =
       good = is.good;
       there = is.there;
       kept = subst (λ (t : ClientScript). IsKept t m.scene.regions c.run.new.self) own (c.run.ensures.kept m.scene.regions (subst (λ (t : ClientScript). IsKept t m.scene.regions c.self.inside.part) (sym own) is.kept));
+      sized = c.run.ensures.size ∙ is.sized;
       copy = is.copy;
     }
 
