@@ -31,25 +31,25 @@ pushed_at [] x (suc j) y e = absurd (grind arith)
 pushed_at (z ∷ xs) x zero y e = inl e
 pushed_at (z ∷ xs) x (suc j) y e = elim (pushed_at xs x j y e) [ inl h ↦ inl h | inr h ↦ inr (ap suc h.0, h.1) ]
 
--- a part as the run begins
-abbrev pub Begins : ClientScript → PartState → Type 0
-Begins p part = Agrees part (opening_part p.commands) × ((regions : ℕ) → IsKept p regions part)
+-- a part as the run begins, with regions of so many bytes
+abbrev pub Begins : ℕ → ClientScript → PartState → Type 0
+Begins size p part = Agrees part (opening_part p.commands) × ((regions : ℕ) → IsKept p regions part) × (part.placed.region_size ≡ size)
 
 -- one part more
-pub one_more : (scripts : List ClientScript) (parts : List PartState) (n : ℕ) (p : ClientScript) (part : PartState) → length parts ≡ n → slice_get scripts n ≡ Some p →
-    ((i : ℕ) (q : ClientScript) (x : PartState) → slice_get scripts i ≡ Some q → slice_get parts i ≡ Some x → Begins q x) → Begins p part →
-    (i : ℕ) (q : ClientScript) (x : PartState) → slice_get scripts i ≡ Some q → slice_get (parts ++ part ∷ []) i ≡ Some x → Begins q x
-one_more scripts parts n p part room there before begins i q x at_q at_x = by_place (pushed_at parts part i x at_x)
+pub one_more : (size : ℕ) (scripts : List ClientScript) (parts : List PartState) (n : ℕ) (p : ClientScript) (part : PartState) → length parts ≡ n → slice_get scripts n ≡ Some p →
+    ((i : ℕ) (q : ClientScript) (x : PartState) → slice_get scripts i ≡ Some q → slice_get parts i ≡ Some x → Begins size q x) → Begins size p part →
+    (i : ℕ) (q : ClientScript) (x : PartState) → slice_get scripts i ≡ Some q → slice_get (parts ++ part ∷ []) i ≡ Some x → Begins size q x
+one_more size scripts parts n p part room there before begins i q x at_q at_x = by_place (pushed_at parts part i x at_x)
   where
-    by_place : (slice_get parts i ≡ Some x) ⊎ ((i ≡ length parts) × (part ≡ x)) → Begins q x
+    by_place : (slice_get parts i ≡ Some x) ⊎ ((i ≡ length parts) × (part ≡ x)) → Begins size q x
     by_place (inl old) = before i q x at_q old
     by_place (inr last) =
         let same : p ≡ q = some_one (sym there ∙ ap (slice_get scripts) (sym (last.0 ∙ room)) ∙ at_q) in
-        subst (λ (r : ClientScript). Begins r x) same (subst (Begins p) last.1 begins)
+        subst (λ (r : ClientScript). Begins size r x) same (subst (Begins size p) last.1 begins)
 
 -- the opening
 pub opened : (s : Scene) (scripts : List ClientScript) (board : Screen) (regions : RegionState) (parts : List PartState) (t : Tally) (m : Marks) → InRange s → scripts ≡ s.clients → IsOpening s board →
-    heap_of regions ≡ record { global = 0; used = λ k. false; age = λ k. 0 } → regions.count ≡ s.regions → AreOpening scripts parts → IsTallyOf s no_tally t → AreMarksOf (opening s) m → IsFaithful s [] board regions parts t m
+    heap_of regions ≡ record { global = 0; used = λ k. false; shared = λ k. false; age = λ k. 0 } → regions.count ≡ s.regions → AreOpening s.region_size scripts parts → IsTallyOf s no_tally t → AreMarksOf (opening s) m → IsFaithful s [] board regions parts t m
 opened s scripts board regions parts t m good is b heap count begin tally marks = record {
   scene = good;
   run = tt;
@@ -64,7 +64,7 @@ opened s scripts board regions parts t m good is b heap count begin tally marks 
     each i p part at_p at_part =
         let own = begin.each i p part (rw is at_p) at_part in
         let commands : commands_of s p.number ≡ p.commands = ap (λ (q : ClientScript). q.commands) (script_at s.clients i p good.scripted.rising at_p) in
-        record { agrees = subst (λ (cs : List Command). Agrees part (opening_part cs)) (sym commands) own.0; kept = own.1 s.regions }
+        record { agrees = subst (λ (cs : List Command). Agrees part (opening_part cs)) (sym commands) own.0; kept = own.1 s.regions; size = own.2 }
 
 -- all are done by their parts
 all_done : (f : ℕ → Private) (ps : List ClientScript) (parts : List PartState) → length parts ≡ length ps → ((i : ℕ) (p : ClientScript) (part : PartState) → slice_get ps i ≡ Some p → slice_get parts i ≡ Some part → Agrees part (f p.number)) →

@@ -1,11 +1,11 @@
 -- The entries of a hold-run have their numbers in the ranges of their lines.
-use Rattle.std.proofs.Common.{◌≡◌, ◌≢◌, ◌≤◌, ◌<◌, ◌+◌, ◌*◌, ◌^◌, ◌∙◌, ℕ, zero, suc, List, [], ◌∷◌, ◌++◌, Bool, true, false, Option, Some, None, Ok, All, take, pred, refl, sym, ap, subst, arith, inl, inr, Contains}
-use Rattle.std.specs.Prelude.{◌⊎◌, ◌&&◌, ◌==◌, IsSome, not, slice_get}
-use Rattle.std.proofs.lemmas.Bool.{true≢false}
-use Rattle.std.proofs.lemmas.Bool.Decides.{eqb_tells}
+use Rattle.std.proofs.Common.{◌≡◌, ◌≢◌, ◌≤◌, ◌<◌, ◌+◌, ◌*◌, ◌^◌, ℕ, zero, suc, List, [], ◌∷◌, ◌++◌, Bool, true, false, Option, Some, None, Ok, All, take, pred, refl, sym, subst, arith, inl, inr, Contains}
+use Rattle.std.specs.Prelude.{◌⊎◌, ◌&&◌, ◌==◌, IfSome, IsSome, if◌then◌else◌, nat_lt, not, slice_get}
+use Rattle.std.proofs.lemmas.Bool.{eqb-true, true≢false}
+use Rattle.std.proofs.lemmas.Bool.Decides.{eqb_tells, nat_tests}
 use Rattle.std.proofs.lemmas.List.Elements.{All-cons, All-contains, All-head, All-nil, All-tail, All-weaker}
 use Rattle.dri_base.specs.Ranges.{ClientInRange, CommandInRange, InRange, IsWithin, client_numbers, heap_bytes, texture_numbers}
-use Rattle.dri_base.specs.Scenes.{bytes_of, commands_of, regions_needed, script_in, script_of, textures_of}
+use Rattle.dri_base.specs.Scenes.{commands_of, regions_needed, script_in, script_of, textures_of}
 use Rattle.dri_base.specs.States.{default_state, state_after, states}
 use Rattle.dri_base.specs.Texels.{texture_in}
 use Rattle.dri_base.specs.declared.command.Command.{Command}
@@ -21,23 +21,29 @@ use Rattle.dri_base.proofs.RegionSizes.{region_size_above}
 use Rattle.dri_client.specs.Kept.{IsKept, IsScript}
 use Rattle.dri_client.specs.Parts.{PartState}
 use Rattle.dri_client.proofs.Owned.{script_in_range, setting_bound, used_number}
-use Rattle.dri_core.specs.EntryTable.{LegalEntry, after_entry}
+use Rattle.dri_client.proofs.Placing.{room_parts}
+use Rattle.dri_core.specs.EntryTable.{LegalEntry, after_entry, is_start_for}
 use Rattle.dri_core.specs.Phases.{Over}
-use Rattle.dri_core.specs.Privates.{textured_with}
+use Rattle.dri_core.specs.Privates.{blocks_needed, is_small, room_in, textured_with}
 use Rattle.dri_core.specs.Runs.{HoldRun, LegalEntries, after, client_of}
 use Rattle.dri_core.proofs.Bounds.{numbers_within}
 use Rattle.dri_core.proofs.Invariant.{Invariant}
 use Rattle.dri_core.proofs.Kept.{after_kept}
 use Rattle.dri_core.proofs.Laws.{HoldRun-push, after-push}
 use Rattle.dri_core.proofs.Lively.{Lively, lively_after}
+use Rattle.dri_core.proofs.Packing.{no_some, some_spot}
+use Rattle.dri_core.proofs.TextureSizes.{place_inside}
 use Rattle.dri_journal.specs.Journals.{EntryInRange, FitsWords, journal_text}
 use Rattle.dri_journal.specs.Readings.{journal_of_text, titled_from}
-use Rattle.dri_journal.proofs.Legal.{at_least_one, needed_bytes, place_inside}
+use Rattle.dri_journal.proofs.Legal.{at_least_one, needed_bytes}
 use Rattle.dri_journal.proofs.ReadBack.{reads_back_from}
 use Rattle.dri_journal.proofs.Whom.{has_number, is_clients, some_commands}
-use Rattle.dri_texheap.specs.Placements.{AreInside}
+use Rattle.dri_texheap.specs.Placements.{placed_of}
+use Rattle.dri_texheap.specs.RegionStates.{IsInside}
 use Rattle.dri_words.specs.Parts.{parts_at}
 use Rattle.dri_model.specs.Groups.{Groups, bits, flag_word, is_empty, no_groups}
+use Rattle.dri_model.specs.Heaps.{Spot}
+use Rattle.dri_model.specs.Shares.{lowest_shared, room_for, spot_above}
 
 -- a client's number is 1 to 32
 client_within : (s : Scene) (c : ℕ) → InRange s → Contains (client_numbers s.clients) c → IsWithin 1 32 c
@@ -102,6 +108,21 @@ some_groups g e = (omega (arith, some), omega (arith, flag_small g.shade, flag_s
         (flag_or g.wrap _ (16 * flag_word g.wrap) _ (one g.wrap 16 (omega arith))
         (flag_or g.bound _ (32 * flag_word g.bound) _ (one g.bound 32 (omega arith)) (none g.scissor 64 (omega arith))))))) e
 
+-- a room is in one of 64 regions
+room_low : (size : ℕ) (levels : ℕ → Option ℕ) (blocks : ℕ) (spot : Spot) → room_for size levels blocks ≡ Some spot → spot.run.first < 64
+room_low size levels blocks spot e = by_number (nat_lt k 64) refl e
+  where
+    k : ℕ
+    k = lowest_shared size levels blocks
+
+    by_level : k < 64 → (o : Option ℕ) → spot_above k o ≡ Some spot → spot.run.first < 64
+    by_level low None e = absurd (no_some refl e)
+    by_level low (Some v) e = subst (λ (z : Spot). z.run.first < 64) (some_spot _ spot e) low
+
+    by_number : (b : Bool) → nat_lt k 64 ≡ b → (if b then spot_above k (levels k) else None) ≡ Some spot → spot.run.first < 64
+    by_number true low e = by_level (grind (arith, nat_tests)) (levels k) e
+    by_number false high e = absurd (no_some refl e)
+
 -- a legal entry after a journal
 module _ (s : Scene) (j : List Entry) (good : InRange s) (run : HoldRun s j) where
   kept : Invariant s (after s j)
@@ -119,7 +140,7 @@ module _ (s : Scene) (j : List Entry) (good : InRange s) (run : HoldRun s j) whe
   -- the texture that a client's triangles need is numbered from 1 to 64, and takes a region
   module _ (c : ℕ) (ranged : IsScript (script_of s c)) (t : ℕ) (used : textured_with ((after s j).client c).state ≡ Some t) where
     abbrev part : PartState
-    part = record { place = 1; phase = Over; stamp = 0; state = ((after s j).client c).state; dirty = no_groups; placed = []; local = 0 }
+    part = record { place = 1; phase = Over; stamp = 0; state = ((after s j).client c).state; dirty = no_groups; placed = record { spots = []; levels = []; region_size = s.region_size }; local = 0 }
 
     own : IsKept (script_of s c) s.regions part
     own = record {
@@ -127,12 +148,13 @@ module _ (s : Scene) (j : List Entry) (good : InRange s) (run : HoldRun s j) whe
       within = omega arith;
       more = tt;
       bound = subst (BindsOne (textures_of s c)) (sym (kept.state c)) (states_bind (textures_of s c) (commands_of s c) (pred ((after s j).client c).place) default_state ranged.commanded.each (λ t e. absurd (cc)));
-      inside = nowhere;
+      inside = record { placed = nowhere (λ spot. IsInside s.regions spot.run); shared = λ k level e. absurd (cc) };
+      blocks = nowhere (λ spot. spot.block ≤ 1024);
     }
       where
-        nowhere : AreInside s.regions []
-        nowhere zero = tt
-        nowhere (suc t) = tt
+        nowhere : (P : Spot → Type 0) (t : ℕ) → IfSome (placed_of part.placed t) P
+        nowhere P zero = tt
+        nowhere P (suc t) = tt
 
     texture_within : IsWithin 1 64 t
     texture_within = used_number (script_of s c) s.regions t part ranged own used
@@ -152,9 +174,17 @@ module _ (s : Scene) (j : List Entry) (good : InRange s) (run : HoldRun s j) whe
   legal_in_range (Entry_is.Place c t first count) left legal =
       let ranged = script (Entry_is.Place c t first count) refl legal in
       let some = takes_some c ranged t legal.1 in
-      let inside = place_inside s.regions (after s j).heap count first legal.4 in
-      let few = good.card.regions.1 in
-      (who (Entry_is.Place c t first count) refl legal, texture_within c ranged t legal.1, (omega arith, omega (arith, some, legal.3, inside, few)), (omega (arith, some, legal.3), omega (arith, inside, few)))
+      let few = good.card.regions.1 in let takes = (well_formed s good).heap c t in
+      (who (Entry_is.Place c t first count) refl legal, texture_within c ranged t legal.1, (omega arith, begins (room_in s c ((after s j).client c) t) refl legal.4), (omega (arith, some, legal.3), omega (arith, takes, legal.3, few)))
+    where
+      -- it begins at one of 64 regions: a room does, and the heap has no more
+      begins : (o : Option Spot) → room_in s c ((after s j).client c) t ≡ o → is_start_for o s.regions (after s j).heap count first ≡ true → first ≤ 63
+      begins None e start =
+          let ranged = script (Entry_is.Place c t first count) refl legal in
+          omega (arith, place_inside s.regions (after s j).heap count first start, takes_some c ranged t legal.1, legal.3, good.card.regions.1)
+      begins (Some spot) e start =
+          let low = room_low s.region_size ((after s j).client c).levels (blocks_needed s c t) spot (room_parts (is_small s c t) _ spot e).1 in
+          omega (arith, eqb-true first spot.run.first start, low)
   legal_in_range (Entry_is.Run c i) left legal =
       let below = lively.more c (rw legal.0 refl) in
       let ranged = script (Entry_is.Run c i) refl legal in

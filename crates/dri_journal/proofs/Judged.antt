@@ -17,12 +17,15 @@ use Rattle.dri_base.specs.declared.texture.Texture.{Texture}
 use Rattle.dri_base.proofs.RangeLemmas.{number_of_script, textures_in_range}
 use Rattle.dri_base.proofs.RegionSizes.{region_size_within}
 use Rattle.dri_client.specs.Parts.{Agrees, PartState, next_command}
+use Rattle.dri_client.specs.Textures.{bytes_in}
 use Rattle.dri_core.specs.Decide.{is_die, is_legal_entry}
+use Rattle.dri_core.specs.EntryTable.{is_start_for}
 use Rattle.dri_core.specs.Phases.{Ask, Asking, In, Old, Out, Over, is_done, is_holding, same_phase}
-use Rattle.dri_core.specs.Privates.{can_draw, can_run, is_ready, is_ready_for, is_triangle, textured_with}
+use Rattle.dri_core.specs.Privates.{can_draw, can_run, is_ready, is_ready_for, is_triangle, room_in, textured_with}
 use Rattle.dri_core.specs.Runs.{HoldRun, after, client_of}
 use Rattle.dri_core.specs.Worlds.{World}
 use Rattle.dri_core.proofs.Decide.{legal_is}
+use Rattle.dri_journal.specs.Acts.{own_room}
 use Rattle.dri_journal.specs.Reasons.{Fails, IsThere, conditions, first_unmet, told_reason, ways_to_go}
 use Rattle.dri_journal.specs.Remains.{AreMarksOf}
 use Rattle.dri_journal.specs.Replays.{allows}
@@ -31,7 +34,8 @@ use Rattle.dri_journal.specs.declared.refusal.Refusal.{Refusal}
 use Rattle.dri_journal.specs.declared.refusal.Refusal.TheVariants as refusals
 use Rattle.dri_journal.proofs.Whom.{has_number, is_clients, some_commands}
 use Rattle.dri_model.specs.Groups.{bits, is_empty, same_number}
-use Rattle.dri_model.specs.Heaps.{is_place_for}
+use Rattle.dri_model.specs.Heaps.{Spot}
+use Rattle.dri_model.specs.Shares.{blocks_for, is_small_for, room_for}
 use Rattle.dri_texheap.specs.Placements.{placed_of}
 use Rattle.dri_texheap.specs.RegionStates.{AreRegionsOf, RegionState, heap_of}
 
@@ -114,7 +118,7 @@ all_met s w (Entry_is.Change i) = none_unmet (conditions s w (Entry_is.Change i)
 all_met s w (Entry_is.Emit c groups) = none_unmet (conditions s w (Entry_is.Emit c groups)) ∙
     five (same_phase (w.client c).phase In) (is_triangle (command_at s c (w.client c).place)) (is_ready (w.client c)) (groups == bits (w.client c).dirty) (not (is_empty (w.client c).dirty))
 all_met s w (Entry_is.Place c t first count) = none_unmet (conditions s w (Entry_is.Place c t first count)) ∙
-    five (same_phase (w.client c).phase In) (is_triangle (command_at s c (w.client c).place)) (same_number (textured_with (w.client c).state) (Some t)) (is_none ((w.client c).placed t)) ((count == regions_needed s c t) && is_place_for s.regions w.heap count first)
+    five (same_phase (w.client c).phase In) (is_triangle (command_at s c (w.client c).place)) (same_number (textured_with (w.client c).state) (Some t)) (is_none ((w.client c).placed t)) ((count == regions_needed s c t) && is_start_for (room_in s c (w.client c) t) s.regions w.heap count first)
 all_met s w (Entry_is.Run c i) = none_unmet (conditions s w (Entry_is.Run c i)) ∙ (λ k. same_phase (w.client c).phase In && ((i == (w.client c).place) && can_run_by (can_draw (w.client c)) (command_at s c i) k))
 all_met s w (Entry_is.Gone c) = none_unmet (conditions s w (Entry_is.Gone c)) ∙ may_go (same_phase (w.client c).phase In && is_die (command_at s c (w.client c).place)) (is_named s c) (is_done (w.client c).phase) (is_holding (w.client c).phase || is_none w.holder)
 
@@ -149,6 +153,10 @@ at_place X Y i n = by_test (i == n) refl
         first_unmet ((b, refusals.WrongPlace) ∷ (X n, refusals.NoCommand) ∷ (Y n, refusals.NotEmitted) ∷ []) ≡ first_unmet ((b, refusals.WrongPlace) ∷ (X i, refusals.NoCommand) ∷ (Y i, refusals.NotEmitted) ∷ [])
     by_test true e = let same : n ≡ i = sym (eqb-true i n e) in λ k. first_unmet ((X (same k), refusals.NoCommand) ∷ (Y (same k), refusals.NotEmitted) ∷ [])
     by_test false e = refl
+
+-- the room for so many bytes in shared regions with these levels
+abbrev room_by : ℕ → ℕ → (ℕ → Option ℕ) → Option Spot
+room_by size bytes levels = if is_small_for size bytes then room_for size levels (blocks_for bytes) else None
 
 -- the entries of a client
 module _ (s : Scene) (w : World) (n : ℕ) (script : ClientScript) (part : PartState) (m : Marks) (own : script ≡ script_of s n) (agrees : Agrees part (w.client n)) (marks : AreMarksOf w m) where
@@ -186,8 +194,9 @@ module _ (s : Scene) (w : World) (n : ℕ) (script : ClientScript) (part : PartS
       number : script.number ≡ n
       number = ap (λ (p : ClientScript). p.number) own ∙ number_of_script s.clients n
 
-  pub place : (t first count : ℕ) (regions : RegionState) → AreRegionsOf s w.heap regions →
-      first_unmet ((same_phase part.phase In, refusals.WrongPhase) ∷ (is_triangle (next_command script part), refusals.NoTriangle) ∷ (same_number (textured_with part.state) (Some t), refusals.WrongTexture) ∷ (is_none (placed_of part.placed t), refusals.WrongTexture) ∷ ((count == regions_for s.region_size (length (bytes_of (texture_in script.textures t)))) && is_place_for regions.count (heap_of regions) count first, refusals.WrongRun) ∷ [])
+  pub place : (t first count : ℕ) (regions : RegionState) → part.placed.region_size ≡ s.region_size → AreRegionsOf s w.heap regions →
+      first_unmet ((same_phase part.phase In, refusals.WrongPhase) ∷ (is_triangle (next_command script part), refusals.NoTriangle) ∷ (same_number (textured_with part.state) (Some t), refusals.WrongTexture) ∷ (is_none (placed_of part.placed t), refusals.WrongTexture) ∷
+      ((count == regions_for part.placed.region_size (bytes_in script t)) && is_start_for (own_room script part t) regions.count (heap_of regions) count first, refusals.WrongRun) ∷ [])
       ≡ first_unmet (conditions s w (Entry_is.Place n t first count))
-  place t first count regions are = λ k. first_unmet ((same_phase (agrees k).phase In, refusals.WrongPhase) ∷ (is_triangle (slice_get (own k).commands (pred (agrees k).place)), refusals.NoTriangle) ∷ (same_number (textured_with (agrees k).state) (Some t), refusals.WrongTexture) ∷
-      (is_none ((agrees k).placed t), refusals.WrongTexture) ∷ ((count == regions_for s.region_size (length (bytes_of (texture_in (own k).textures t)))) && is_place_for (are.count k) (are.ages k) count first, refusals.WrongRun) ∷ [])
+  place t first count regions sized are = λ k. first_unmet ((same_phase (agrees k).phase In, refusals.WrongPhase) ∷ (is_triangle (slice_get (own k).commands (pred (agrees k).place)), refusals.NoTriangle) ∷ (same_number (textured_with (agrees k).state) (Some t), refusals.WrongTexture) ∷
+      (is_none ((agrees k).placed t), refusals.WrongTexture) ∷ ((count == regions_for (sized k) (bytes_in (own k) t)) && is_start_for (room_by (sized k) (bytes_in (own k) t) (agrees k).levels) (are.count k) (are.ages k) count first, refusals.WrongRun) ∷ [])

@@ -97,8 +97,8 @@ one e m ne (suc k) d l = absurd (omega arith)
 
 -- the parts after an entry of client c, whose part is written
 pub parts_step : (s : Scene) (w : World) (e : Entry) (c i : ℕ) (parts : List PartState) (new : PartState) → InRange s → client_of e ≡ c → slice_get s.clients i ≡ Some (script_of s c) → ArePartsOf s w parts →
-    Agrees new ((after_entry s w e).client c) → IsKept (script_of s c) s.regions new → ArePartsOf s (after_entry s w e) (set parts i new)
-parts_step s w e c i parts new good own there are agrees kept = record { room = length-set parts i new ∙ are.room; each = each }
+    Agrees new ((after_entry s w e).client c) → IsKept (script_of s c) s.regions new → new.placed.region_size ≡ s.region_size → ArePartsOf s (after_entry s w e) (set parts i new)
+parts_step s w e c i parts new good own there are agrees kept sized = record { room = length-set parts i new ∙ are.room; each = each }
   where
     each : (k : ℕ) (p : ClientScript) (part : PartState) → slice_get s.clients k ≡ Some p → slice_get (set parts i new) k ≡ Some part → IsPartOf s (after_entry s w e) p part
     each k p part at_p at_part = by_place (cases_eq k i)
@@ -108,22 +108,22 @@ parts_step s w e c i parts new good own there are agrees kept = record { room = 
             let script : script_of s c ≡ p = some_one (sym there ∙ ap (slice_get s.clients) (sym same) ∙ at_p) in
             let is : part ≡ new = written parts i new part (subst (λ n. slice_get (set parts i new) n ≡ Some part) same at_part) in
             subst (λ (q : ClientScript). IsPartOf s (after_entry s w e) q part) script (subst (λ (x : PartState). IsPartOf s (after_entry s w e) (script_of s c) x) (sym is)
-            (record { agrees = subst (λ n. Agrees new ((after_entry s w e).client n)) (sym (number_of_script s.clients c)) agrees; kept = kept }))
+            (record { agrees = subst (λ n. Agrees new ((after_entry s w e).client n)) (sym (number_of_script s.clients c)) agrees; kept = kept; size = sized }))
         by_place (inr other) =
             let old = are.each k p part at_p (unwritten parts i k new part other at_part) in
             let foreign : (after_entry s w e).client p.number ≡ w.client p.number = foreign_entries s w (e ∷ []) p.number (one e p.number (λ same. other_client s c i k p good there at_p other (sym same ∙ own))) in
-            record { agrees = subst (Agrees part) (sym foreign) old.agrees; kept = old.kept }
+            record { agrees = subst (Agrees part) (sym foreign) old.agrees; kept = old.kept; size = old.size }
 
 -- the parts where no client's changes
 pub parts_stay : (s : Scene) (w v : World) (parts : List PartState) → v.client ≡ w.client → ArePartsOf s w parts → ArePartsOf s v parts
-parts_stay s w v parts same are = record { room = are.room; each = λ i p part at_p at_part. let old = are.each i p part at_p at_part in record { agrees = rw same old.agrees; kept = old.kept } }
+parts_stay s w v parts same are = record { room = are.room; each = λ i p part at_p at_part. let old = are.each i p part at_p at_part in record { agrees = rw same old.agrees; kept = old.kept; size = old.size } }
 
 -- the part that stands at the place of its client's script
-pub part_found : (s : Scene) (w : World) (c i : ℕ) (parts : List PartState) (part : PartState) → ArePartsOf s w parts → slice_get s.clients i ≡ Some (script_of s c) → part ≡ get_or parts i part → Agrees part (w.client c) × IsKept (script_of s c) s.regions part
+pub part_found : (s : Scene) (w : World) (c i : ℕ) (parts : List PartState) (part : PartState) → ArePartsOf s w parts → slice_get s.clients i ≡ Some (script_of s c) → part ≡ get_or parts i part → Agrees part (w.client c) × IsKept (script_of s c) s.regions part × (part.placed.region_size ≡ s.region_size)
 part_found s w c i parts part are there is =
     let below : i < length parts = rw are.room (slice_get_within s.clients i (script_of s c) there) in
     let own = are.each i (script_of s c) part there (slice_get-get_or parts i part below ∙ ap Some (sym is)) in
-    (subst (λ n. Agrees part (w.client n)) (number_of_script s.clients c) own.agrees, own.kept)
+    (subst (λ n. Agrees part (w.client n)) (number_of_script s.clients c) own.agrees, own.kept, own.size)
 
 -- a quiet entry leaves the windows
 pub board_stays : (s : Scene) (w : World) (e : Entry) (board : Screen) → is_quiet e ≡ true → IsBoardOf s w.stack w.stamps w.counter board → IsBoardOf s (after_entry s w e).stack (after_entry s w e).stamps (after_entry s w e).counter board

@@ -10,6 +10,7 @@ pub mod EntryRanges
 mod Plain
 mod Keeping
 mod Counting
+mod Cutting
 mod Restacked
 mod Judged
 mod Beginning

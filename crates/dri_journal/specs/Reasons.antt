@@ -6,14 +6,14 @@ use Rattle.dri_base.specs.declared.journal.Entry.{Entry}
 use Rattle.dri_base.specs.declared.journal.Entry.TheVariants as Entry_is
 use Rattle.dri_base.specs.declared.scene.Scene.{Scene}
 use Rattle.dri_core.specs.Decide.{is_die}
+use Rattle.dri_core.specs.EntryTable.{is_start_for}
 use Rattle.dri_core.specs.Phases.{Ask, Asking, In, Old, Out, Over, is_done, is_holding, same_phase}
-use Rattle.dri_core.specs.Privates.{can_draw, can_run, is_ready, is_triangle, textured_with}
+use Rattle.dri_core.specs.Privates.{can_draw, can_run, is_ready, is_triangle, room_in, textured_with}
 use Rattle.dri_core.specs.Runs.{client_of}
 use Rattle.dri_core.specs.Worlds.{World}
 use Rattle.dri_journal.specs.declared.refusal.Refusal.{Refusal}
 use Rattle.dri_journal.specs.declared.refusal.Refusal.TheVariants as refusals
 use Rattle.dri_model.specs.Groups.{bits, is_empty, same_number}
-use Rattle.dri_model.specs.Heaps.{is_place_for}
 
 -- the reason of the first condition that isn't met
 abbrev pub first_unmet : List (Bool × Refusal) → Option Refusal
@@ -47,7 +47,7 @@ conditions s w (Entry_is.Emit c groups) =
 conditions s w (Entry_is.Place c t first count) =
     (same_phase (w.client c).phase In, refusals.WrongPhase) ∷ (is_triangle (command_at s c (w.client c).place), refusals.NoTriangle) ∷
     (same_number (textured_with (w.client c).state) (Some t), refusals.WrongTexture) ∷ (is_none ((w.client c).placed t), refusals.WrongTexture) ∷
-    ((count == regions_needed s c t) && is_place_for s.regions w.heap count first, refusals.WrongRun) ∷ []
+    ((count == regions_needed s c t) && is_start_for (room_in s c (w.client c) t) s.regions w.heap count first, refusals.WrongRun) ∷ []
 conditions s w (Entry_is.Run c i) =
     (same_phase (w.client c).phase In, refusals.WrongPhase) ∷ (i == (w.client c).place, refusals.WrongPlace) ∷
     (can_run true (command_at s c i), refusals.NoCommand) ∷ (can_run (can_draw (w.client c)) (command_at s c i), refusals.NotEmitted) ∷ []

@@ -28,17 +28,18 @@ pub record AreMarksOf (w : World) (marks : Marks) : Type 0 where
 pub record IsPartOf (s : Scene) (w : World) (p : ClientScript) (part : PartState) : Type 0 where
   pub agrees : Agrees part (w.client p.number)
   pub kept : IsKept p s.regions part
+  pub size : part.placed.region_size ≡ s.region_size
 
 -- there is a part for each script, in the scripts' order
 pub record ArePartsOf (s : Scene) (w : World) (parts : List PartState) : Type 0 where
   pub room : length parts ≡ length s.clients
   pub each : (i : ℕ) (p : ClientScript) (part : PartState) → slice_get s.clients i ≡ Some p → slice_get parts i ≡ Some part → IsPartOf s w p part
 
--- the parts of the scripts' clients as the run begins
-pub record AreOpening (scripts : List ClientScript) (parts : List PartState) : Type 0 where
+-- the parts of the scripts' clients as the run begins, with regions of so many bytes
+pub record AreOpening (size : ℕ) (scripts : List ClientScript) (parts : List PartState) : Type 0 where
   pub room : length parts ≡ length scripts
   pub each : (i : ℕ) (p : ClientScript) (part : PartState) → slice_get scripts i ≡ Some p → slice_get parts i ≡ Some part →
-      Agrees part (opening_part p.commands) × ((regions : ℕ) → IsKept p regions part)
+      Agrees part (opening_part p.commands) × ((regions : ℕ) → IsKept p regions part) × (part.placed.region_size ≡ size)
 
 -- the scene is in range, the entries are a hold-run of it, and the rest is what they leave
 pub record IsFaithful (s : Scene) (journal : List Entry) (board : Screen) (regions : RegionState) (parts : List PartState) (tally : Tally) (marks : Marks) : Type 0 where

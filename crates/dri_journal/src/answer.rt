@@ -10,7 +10,7 @@ pub struct Report {
     pub entries: u32,
     /// How many swaps it ran whose frame begins with a clear.
     pub frames: u32,
-    /// How many of these frames stood: their window got no new stamp from the last clear to the swap.
+    /// How many of these frames stood: their window got no new stamp from the last clear to the swap, but by whole moves.
     pub stood: u32,
     /// Whether nothing is left to do: nobody holds, no client asks, each client has ended or is dead, and all changes were
     /// made.

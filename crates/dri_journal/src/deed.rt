@@ -1,9 +1,9 @@
 //! What an entry does to the planes.
 
 ghost use Rattle.std.specs.Prelude.{◌≡◌};
-ghost use Rattle.dri_journal.specs.Deeds.{deed_by, deed_told, windows_in};
+ghost use Rattle.dri_journal.specs.Deeds.{deed_by, deed_told, whole_window, windows_in};
 
-use dri_base::{Command, Rgb, Triangle};
+use dri_base::{Change, Command, Rgb, Triangle};
 use dri_clips::Touched;
 
 /// What an entry does to what is drawn and shown.
@@ -17,7 +17,8 @@ pub enum Deed {
     Triangle(Triangle),
     /// Back is copied to front in the client's clips.
     Swap,
-    /// The windows have changed: those that were touched got new stamps, and front is painted.
+    /// The windows have changed: those that were touched got new stamps, a moved one carries its pixels along in front and in
+    /// back with depth, and then front is painted.
     Touched(Touched),
 }
 
@@ -40,6 +41,22 @@ pub fn windows_of(told: &Option<Touched>) -> &[u32]
     match told {
         Some(touched) => touched.windows.as_slice(),
         None => &[],
+    }
+}
+
+/// The window that a change moved whole, if it did: the one that it names.
+pub fn whole_window(change: &Change, told: &Option<Touched>) -> Option<u32>
+    ensures { result ≡ whole_window change.now told.now }
+{
+    match told {
+        Some(touched) => {
+            if touched.whole() {
+                Some(change.window())
+            } else {
+                None
+            }
+        }
+        None => None,
     }
 }
 

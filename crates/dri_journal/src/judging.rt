@@ -3,26 +3,28 @@
 
 ghost use Rattle.std.specs.Prelude.{◌≡◌, ◌≤◌, ◌+◌, ◌==◌, ◌&&◌, ◌||◌, not, is_none, length, nat_le, Some, true, [], ◌∷◌, ◌<◌};
 ghost use Rattle.dri_base.specs.Limits.{last_age};
-ghost use Rattle.dri_base.specs.Scenes.{bytes_of, kills_in, regions_for};
-ghost use Rattle.dri_base.specs.Texels.{texture_in};
+ghost use Rattle.dri_base.specs.Scenes.{kills_in, regions_for};
 ghost use Rattle.dri_client.specs.Activities.{phase_in};
 ghost use Rattle.dri_client.specs.Parts.{next_command};
+ghost use Rattle.dri_client.specs.Textures.{bytes_in};
 ghost use Rattle.dri_core.specs.Decide.{is_die};
+ghost use Rattle.dri_core.specs.EntryTable.{is_start_for};
 ghost use Rattle.dri_core.specs.Phases.{Ask, Asking, In, Old, Out, Over, is_done, is_holding, same_phase};
 ghost use Rattle.dri_core.specs.Privates.{can_run, is_ready_for, is_triangle, textured_with};
+ghost use Rattle.dri_journal.specs.Acts.{own_room};
 ghost use Rattle.dri_journal.specs.Reasons.{first_unmet, told_reason, ways_to_go};
 ghost use Rattle.dri_journal.specs.Replays.{allows};
 ghost use Rattle.dri_journal.specs.declared.refusal.Refusal.TheVariants as refusals;
 ghost use Rattle.dri_model.specs.Groups.{bits, is_empty, same_number};
-ghost use Rattle.dri_model.specs.Heaps.{is_place_for};
 ghost use Rattle.dri_texheap.specs.Placements.{placed_of};
 ghost use Rattle.dri_texheap.specs.RegionStates.{heap_of};
 
 use crate::marks::Marks;
 use crate::refusal::Refusal;
-use dri_base::{ClientScript, Command, Item, Texture};
-use dri_client::{Activity, ClientPart};
-use dri_texheap::{Regions, Run};
+use dri_base::{ClientScript, Command, Item};
+use dri_client::{Activity, ClientPart, bytes_in};
+use dri_core::regions_for;
+use dri_texheap::{Regions, Run, Spot};
 
 /// The refusal, where a condition isn't met.
 fn require(is_met: bool, refusal: Refusal) -> Result<(), Refusal>
@@ -198,28 +200,6 @@ fn is_kill(item: Item, client: u32) -> bool
     }
 }
 
-/// How many regions of a size, 1 to 65,536 bytes, so many bytes take, at most 4,194,304.
-fn regions_for(size: u32, bytes: u32) -> u32
-    requires some { 0 < size }
-    requires size { size ≤ 65536 }
-    requires bytes { bytes ≤ 4194304 }
-    ensures { result ≡ regions_for size bytes }
-{
-    (bytes + (size - 1)) / size
-}
-
-/// How many bytes the texture with this number has; none where it isn't there.
-fn texture_bytes(textures: &[Texture], number: u32) -> usize
-    ensures { result ≡ length (bytes_of (texture_in textures.now number)) }
-{
-    for texture in textures {
-        if texture.number == number {
-            return texture.bytes.len();
-        }
-    }
-    0
-}
-
 /// Whether the client's triangles need this texture.
 fn needs(part: &ClientPart, texture: u32) -> bool
     ensures { result ≡ same_number (textured_with part.now.state) (Some texture) }
@@ -230,38 +210,52 @@ fn needs(part: &ClientPart, texture: u32) -> bool
     }
 }
 
-/// Whether a run is the one for so many regions by the rule.
-fn is_run(regions: &Regions, needed: u32, run: Run) -> bool
+/// The region where the run of a texture begins that needs so many: its room's, where there is room, else that of the
+/// heap's rule.
+fn first_region(room: Option<Spot>, regions: &Regions, needed: u32) -> u32
     requires some { 1 ≤ needed }
     requires enough { needed ≤ regions.now.count }
     requires age { (heap_of regions.now).global ≤ last_age }
-    ensures { result ≡ ((run.count == needed) && is_place_for regions.now.count (heap_of regions.now) run.count run.first) }
+    ensures { is_start_for room regions.now.count (heap_of regions.now) needed result ≡ true }
 {
-    run.count == needed && run.first == regions.place_for(needed)
+    match room {
+        Some(spot) => spot.run.first,
+        None => regions.place_for(needed),
+    }
 }
 
-/// A texture is placed in a run of regions, each of so many bytes.
+/// Whether a run is the one for a texture that needs so many regions, with room or without.
+fn is_run(room: Option<Spot>, regions: &Regions, needed: u32, run: Run) -> bool
+    requires some { 1 ≤ needed }
+    requires enough { needed ≤ regions.now.count }
+    requires age { (heap_of regions.now).global ≤ last_age }
+    ensures { result ≡ ((run.count == needed) && is_start_for room regions.now.count (heap_of regions.now) run.count run.first) }
+{
+    run.count == needed && run.first == first_region(room, regions, needed)
+}
+
+/// A texture is placed in a run of regions.
 pub fn place(
     part: &ClientPart,
     script: &ClientScript,
     regions: &Regions,
-    size: u32,
     texture: u32,
     run: Run,
 ) -> Result<(), Refusal>
-    requires some { 0 < size }
-    requires size { size ≤ 65536 }
-    requires bytes { length (bytes_of (texture_in script.now.textures texture)) ≤ 4194304 }
-    requires needed { regions_for size (length (bytes_of (texture_in script.now.textures texture))) ≤ regions.now.count }
-    requires there { same_number (textured_with part.now.state) (Some texture) ≡ true → 0 < length (bytes_of (texture_in script.now.textures texture)) }
+    requires some { 0 < part.now.placed.region_size }
+    requires size { part.now.placed.region_size ≤ 65536 }
+    requires bytes { bytes_in script.now texture ≤ 4194304 }
+    requires needed { regions_for part.now.placed.region_size (bytes_in script.now texture) ≤ regions.now.count }
+    requires there { same_number (textured_with part.now.state) (Some texture) ≡ true → 0 < bytes_in script.now texture }
     requires age { (heap_of regions.now).global ≤ last_age }
-    ensures { told_reason result ≡ first_unmet ((same_phase part.now.phase In, refusals.WrongPhase) ∷ (is_triangle (next_command script.now part.now), refusals.NoTriangle) ∷ (same_number (textured_with part.now.state) (Some texture), refusals.WrongTexture) ∷ (is_none (placed_of part.now.placed texture), refusals.WrongTexture) ∷ ((run.count == regions_for size (length (bytes_of (texture_in script.now.textures texture)))) && is_place_for regions.now.count (heap_of regions.now) run.count run.first, refusals.WrongRun) ∷ []) }
+    ensures { told_reason result ≡ first_unmet ((same_phase part.now.phase In, refusals.WrongPhase) ∷ (is_triangle (next_command script.now part.now), refusals.NoTriangle) ∷ (same_number (textured_with part.now.state) (Some texture), refusals.WrongTexture) ∷ (is_none (placed_of part.now.placed texture), refusals.WrongTexture) ∷ ((run.count == regions_for part.now.placed.region_size (bytes_in script.now texture)) && is_start_for (own_room script.now part.now texture) regions.now.count (heap_of regions.now) run.count run.first, refusals.WrongRun) ∷ []) }
 {
     require(is_in(part, Activity::In), Refusal::WrongPhase)?;
     require(is_at_triangle(part, script), Refusal::NoTriangle)?;
     require(needs(part, texture), Refusal::WrongTexture)?;
     require(part.resident(texture).is_none(), Refusal::WrongTexture)?;
-    let bytes = texture_bytes(script.textures.as_slice(), texture) as u32;
-    let needed = regions_for(size, bytes);
-    require(is_run(regions, needed, run), Refusal::WrongRun)
+    let bytes = bytes_in(script, texture) as u32;
+    let needed = regions_for(part.region_size(), bytes);
+    let room = part.room(script, texture);
+    require(is_run(room, regions, needed, run), Refusal::WrongRun)
 }

@@ -22,7 +22,7 @@ ghost use Rattle.dri_journal.specs.Replays.{MayTake, Steps, Took, allows, world_
 ghost use Rattle.dri_meaning.specs.Reports.{is_whole, tally};
 
 use crate::acting::{act, use_regions};
-use crate::deed::{Deed, deed_by, deed_told, windows_of};
+use crate::deed::{Deed, deed_by, deed_told, whole_window, windows_of};
 use crate::judging;
 use crate::marks::Marks;
 use crate::refusal::{Refusal, StepFault};
@@ -66,7 +66,7 @@ impl<'a> Replay<'a> {
         ensures { IfOk result (λ r. r ≡ record { scene = scene.now; entries = [] }) }
     {
         let board = Board::new(alloc, scene)?;
-        let parts = parts_of(alloc, scene.clients.as_slice())?;
+        let parts = parts_of(alloc, scene.clients.as_slice(), scene.region_size)?;
         let tally = Tally::new(alloc, scene.clients.len())?;
         Ok(Replay {
             scene,
@@ -168,14 +168,7 @@ impl<'a> Replay<'a> {
                 texture,
                 first,
                 count,
-            } => judging::place(
-                part,
-                script,
-                &self.regions,
-                self.scene.region_size,
-                texture,
-                Run { first, count },
-            ),
+            } => judging::place(part, script, &self.regions, texture, Run { first, count }),
             Entry::Change { place } => {
                 judging::change(self.marks, self.scene.changes.len(), place)
             }
@@ -227,7 +220,7 @@ impl<'a> Replay<'a> {
         let is_new_owner = self.marks.owner != client + 1;
         let part = &mut self.parts[at];
         let command = part.next_command(script);
-        use_regions(&mut self.regions, entry, command, part.used_run());
+        use_regions(&mut self.regions, script, part, entry);
         act(part, script, entry, &self.regions, stamp, is_new_owner);
         let ran = ran_by(entry, command);
         self.tally.ran(at, ran);
@@ -247,7 +240,11 @@ impl<'a> Replay<'a> {
         let scene = self.scene;
         let change = scene.changes.get(self.marks.made as usize);
         let told = change_windows::<Brand>(Blank::new(1), alloc, &mut self.board, change)?;
-        self.tally.cut(scene.clients.as_slice(), windows_of(&told));
+        self.tally.cut(
+            scene.clients.as_slice(),
+            windows_of(&told),
+            whole_window(change, &told),
+        );
         self.marks = self.marks.after(&Entry::Change { place });
         self.entries.push_reserved(Entry::Change { place });
         Ok(deed_told(told))
@@ -266,20 +263,25 @@ impl<'a> Replay<'a> {
         let touched = unmap_windows::<Brand>(Blank::new(1), alloc, &mut self.board, client)?;
         self.parts[at].gone();
         self.tally
-            .cut(scene.clients.as_slice(), touched.windows.as_slice());
+            .cut(scene.clients.as_slice(), touched.windows.as_slice(), None);
         self.marks = self.marks.after(&Entry::Gone { client });
         self.entries.push_reserved(Entry::Gone { client });
         Ok(Deed::Touched(touched))
     }
 }
 
-// A part for each script, in the scripts' order, each as the run begins.
-fn parts_of(alloc: Global, scripts: &[ClientScript]) -> Result<Vec<ClientPart>, OutOfMemory>
-    ensures { IfOk result (λ parts. AreOpening scripts.now parts.items) }
+// A part for each script, in the scripts' order, each as the run begins. `region_size` counts the bytes of a region.
+fn parts_of(
+    alloc: Global,
+    scripts: &[ClientScript],
+    region_size: u32,
+) -> Result<Vec<ClientPart>, OutOfMemory>
+    requires { region_size ≤ 65536 }
+    ensures { IfOk result (λ parts. AreOpening region_size scripts.now parts.items) }
 {
     let mut parts = Vec::with_capacity(alloc, scripts.len())?;
     for script in scripts {
-        parts.push(ClientPart::new(alloc, script)?)?;
+        parts.push(ClientPart::new(alloc, script, region_size)?)?;
     }
     Ok(parts)
 }

@@ -4,14 +4,15 @@
 ghost use Rattle.std.specs.Prelude.{◌≡◌, ◌+◌, ◌<◌, ◌≤◌, ℕ, not, length, true, Some, IfOk, slice_get, get_or, slice_set};
 ghost use Rattle.dri_base.specs.declared.scene.ClientScript.{ClientScript};
 ghost use Rattle.dri_base.specs.declared.scene.Scene.{Scene};
-ghost use Rattle.dri_journal.specs.Tallies.{AreCut, IsTallyOf, has_number, no_tally, standing_in};
+ghost use Rattle.dri_journal.specs.Tallies.{AreCut, IsTallyOf, has_number, is_cut, no_tally, standing_in};
 ghost use Rattle.dri_journal.specs.declared.tally.Standing.TheVariants as Standing_is;
 ghost use Rattle.dri_meaning.specs.Reports.{counts_frame, counts_stood, cut_by, standing_after};
 
 use dri_base::{ClientScript, Command, OutOfMemory};
 use std::alloc::Global;
 
-/// Where a client's frame stands: it has no clear yet, its last clear has stood, or a new stamp came after it.
+/// Where a client's frame stands: it has no clear yet, its last clear has stood, or a new stamp came after it by something else
+/// than a whole move.
 #[derive(Clone, Copy, PartialEq, Eq)]
 pub enum Standing {
     NoClear,
@@ -44,7 +45,7 @@ impl Standing {
         }
     }
 
-    /// After a new stamp of the client's window.
+    /// After a new stamp of the client's window, which wasn't moved whole.
     fn cut(self) -> Standing
         ensures { standing_in result ≡ cut_by true (standing_in self) }
     {
@@ -90,6 +91,16 @@ fn has_number(numbers: &[u32], number: u32) -> bool
     false
 }
 
+/// Whether what stands on a window is cut: it is one of the windows, and not the one that was moved whole, if one was.
+fn is_cut(windows: &[u32], whole: Option<u32>, window: u32) -> bool
+    ensures { result ≡ is_cut windows.now whole window }
+{
+    match whole {
+        Some(moved) => moved != window && has_number(windows, window),
+        None => has_number(windows, window),
+    }
+}
+
 impl Tally {
     /// Nothing is counted yet, of so many clients.
     pub fn new(alloc: Global, clients: usize) -> Result<Tally, OutOfMemory>
@@ -120,15 +131,16 @@ impl Tally {
         self.standings[at] = standing.ran(command);
     }
 
-    /// Windows got new stamps: the frames of the clients that draw on them are cut.
-    pub fn cut(&mut self, clients: &[ClientScript], windows: &[u32])
+    /// Windows got new stamps: the frames of the clients that draw on them are cut, but for the window that was moved whole,
+    /// if one was.
+    pub fn cut(&mut self, clients: &[ClientScript], windows: &[u32], whole: Option<u32>)
         requires { length self.old.standings.items ≡ length clients.now }
-        ensures cut { AreCut clients.now windows.now self.old.standings.items self.new.standings.items }
+        ensures cut { AreCut clients.now windows.now whole self.old.standings.items self.new.standings.items }
         ensures frames { self.new.frames ≡ self.old.frames }
         ensures stood { self.new.stood ≡ self.old.stood }
     {
         for at in 0..clients.len() {
-            if has_number(windows, clients[at].window) {
+            if is_cut(windows, whole, clients[at].window) {
                 self.standings[at] = self.standings[at].cut();
             }
         }

@@ -1,11 +1,11 @@
 //! What an entry does to the windows.
 
-ghost use Rattle.std.specs.Prelude.{◌≡◌, ◌≢◌, ◌≤◌, IfOk, IfSome, OnOk, OnErr, is_none, is_some};
+ghost use Rattle.std.specs.Prelude.{◌≡◌, ◌≢◌, ◌≤◌, None, IfOk, IfSome, OnOk, OnErr, is_none, is_some};
 ghost use Rattle.dri_base.specs.Limits.{last_stamp};
 ghost use Rattle.dri_clips.specs.Boards.{IsRestacked};
 ghost use Rattle.dri_clips.specs.Paints.{IsTouched};
 ghost use Rattle.dri_clips.specs.declared.change.ChangeFault.{ChangeFault};
-ghost use Rattle.dri_model.specs.Stacks.{refusal, stack_after, without_owner};
+ghost use Rattle.dri_model.specs.Stacks.{moved_by, refusal, stack_after, without_owner};
 
 use dri_base::{Change, OutOfMemory, Steps};
 use dri_clips::{Board, ChangeFault, Touched};
@@ -35,7 +35,7 @@ pub fn change_windows<L: Ledger>(
     requires one { L.parts ≡ 1 }
     requires counter { board.old.counter ≤ last_stamp }
     ensures ok { OnOk result (IsRestacked (stack_after change.now board.old.stack) board.old board.new) }
-    ensures touched { IfOk result (λ told. IfSome told (IsTouched board.old (stack_after change.now board.old.stack))) }
+    ensures touched { IfOk result (λ told. IfSome told (IsTouched board.old (stack_after change.now board.old.stack) (moved_by change.now board.old.stack))) }
     ensures refused { IfOk result (λ told. is_none told ≡ is_some (refusal change.now board.old.stack)) }
     ensures err { OnErr result (board.new ≡ board.old) }
 {
@@ -61,7 +61,7 @@ pub fn unmap_windows<L: Ledger>(
     requires one { L.parts ≡ 1 }
     requires counter { board.old.counter ≤ last_stamp }
     ensures ok { OnOk result (IsRestacked (without_owner owner board.old.stack) board.old board.new) }
-    ensures touched { IfOk result (IsTouched board.old (without_owner owner board.old.stack)) }
+    ensures touched { IfOk result (IsTouched board.old (without_owner owner board.old.stack) None) }
     ensures err { OnErr result (board.new ≡ board.old) }
 {
     let mut steps = Steps::<L>::new(blank);

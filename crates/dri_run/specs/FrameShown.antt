@@ -17,7 +17,7 @@ use Rattle.dri_core.specs.Worlds.{clips_in}
 abbrev pub after_run : Scene → Core → List Event → ℕ → ℕ → Core
 after_run s k events c i = after_event s (after_events s k events) (Run c i)
 
--- frame k of client c stood in the run from its last clear to its swap; then the client swapped no more, and its window kept its stamp
+-- frame k of client c stood in the run from its last clear to its swap; then the client swapped no more, and its window was at most moved whole
 pub record StoodLast (s : Scene) (events : List Event) (c k : ℕ) : Type 0 where
   pub first : ℕ
   pub last : ℕ

@@ -21,7 +21,7 @@ pub record IsRunOf (scene : Scene) (events : List Event) : Type 0 where
   pub confined : ConfinedRun scene events
   -- each triangle is drawn with its own client's registers and texels
   pub own : OwnRun scene events
-  -- each frame that begins with a clear and whose stamp stood until its swap leaves in its clips exactly that client's frame drawn alone
+  -- each frame that begins with a clear and whose window was at most moved whole until its swap leaves in its clips exactly that client's frame drawn alone
   pub solo_left : SoloLeftRun scene events
   -- nobody holds, every client is ended or dead, and all changes were made
   pub whole : Whole scene (journal_of events)

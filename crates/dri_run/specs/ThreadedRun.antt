@@ -15,7 +15,7 @@ pub record IsJournalOf (scene : Scene) (journal : List Entry) : Type 0 where
   pub confined : Confined scene journal
   -- each triangle is drawn with its own client's registers and texels
   pub own : Own scene journal
-  -- each frame that begins with a clear and whose stamp stood until its swap leaves in its clips exactly that client's frame drawn alone
+  -- each frame that begins with a clear and whose window was at most moved whole until its swap leaves in its clips exactly that client's frame drawn alone
   pub solo_left : SoloLeft scene journal
   -- nobody holds, every client is ended or dead, and all changes were made
   pub whole : Whole scene journal

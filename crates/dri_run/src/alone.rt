@@ -30,8 +30,9 @@ use dri_words::Reason;
 use std::alloc::Global;
 
 /// What `solo` shows is what the screen shows after `turns`: where a frame of a scene's run stood and then its client swapped
-/// no more and its window got no new stamp, each pixel of the screen in the window's clips is the one that the frame drawn
-/// alone has at its place in the window. It does nothing: its contract is the law.
+/// no more and its window was at most moved whole, each pixel of the screen in the window's clips is the one that the frame
+/// drawn alone has at its place in the window, where it has that place: a window that was resized may show more of it. It does
+/// nothing: its contract is the law.
 pub fn solo_is_shown()
     ensures { (scene : Scene) (events : List Event) (c k width height : ℕ) (pixels : List Rgb) → IsRunOf scene events → StoodLast scene events c k
         → IsShot c k scene width height pixels → IsOnScreen scene events c width height pixels }

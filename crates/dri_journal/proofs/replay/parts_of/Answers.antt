@@ -14,6 +14,6 @@ loop-script-preserved c =
     let there : slice_get ps n ≡ Some c.script-item.result = slice_get_read ps (length ps) n c.script-item.result refl c.loop-script-test.true c.script-item.is in
     record {
       room = ap length pushed ∙ length_push parts part ∙ ap (λ m. m + 1) c.loop-script.invariant.room;
-      each = subst (λ (xs : List PartState). (i : ℕ) (p : ClientScript) (x : PartState) → slice_get ps i ≡ Some p → slice_get xs i ≡ Some x → Begins p x) (sym pushed)
-          (one_more ps parts n c.script-item.result part c.loop-script.invariant.room there c.loop-script.invariant.each (c.in_ok-new.ensures.part, c.in_ok-new.ensures.kept));
+      each = subst (λ (xs : List PartState). (i : ℕ) (p : ClientScript) (x : PartState) → slice_get ps i ≡ Some p → slice_get xs i ≡ Some x → Begins c.args.region_size p x) (sym pushed)
+          (one_more c.args.region_size ps parts n c.script-item.result part c.loop-script.invariant.room there c.loop-script.invariant.each (c.in_ok-new.ensures.part, c.in_ok-new.ensures.kept, c.in_ok-new.ensures.size));
     }

@@ -10,5 +10,5 @@ use Rattle.dri_journal.proofs.replay.parts_of.Given as goal
 abbrev pub invariant-loop-script : goal.invariant-loop-script
 invariant-loop-script l = record {
   room : length l.parts.items ≡ l.script-index;
-  each : (i : ℕ) (p : ClientScript) (part : PartState) → slice_get l.scripts i ≡ Some p → slice_get l.parts.items i ≡ Some part → Agrees part (opening_part p.commands) × ((regions : ℕ) → IsKept p regions part);
+  each : (i : ℕ) (p : ClientScript) (part : PartState) → slice_get l.scripts i ≡ Some p → slice_get l.parts.items i ≡ Some part → Agrees part (opening_part p.commands) × ((regions : ℕ) → IsKept p regions part) × (part.placed.region_size ≡ l.region_size);
 }

@@ -7,7 +7,6 @@ use Rattle.dri_base.specs.declared.scene.ClientScript.{ClientScript}
 use Rattle.dri_base.specs.declared.scene.Window.{Window}
 use Rattle.dri_client.specs.Kept.{IsKept, IsScript}
 use Rattle.dri_client.specs.Parts.{next_command}
-use Rattle.dri_client.specs.Textures.{run_used}
 use Rattle.dri_client.proofs.Owned.{script_in_range}
 use Rattle.dri_core.specs.EntryTable.{LegalEntry}
 use Rattle.dri_core.specs.Runs.{after, client_of}
@@ -65,7 +64,7 @@ use_regions-requires c =
     let script : script_of s n ≡ c.get-script.result.now = some_one (sym there ∙ c.get-script.ensures) in
     let part = c.index_mut-part.result.now in
     let own = part_found s (after s j) n at i.parts.items part c.self.invariant.clients there c.index_mut-part.ensures.value in
-    subst (λ u. UsesRegions i.regions e u) (sym c.used_run.ensures) (uses s j good run n part own.0 own.1 i.regions c.self.invariant.memory e refl c.requires.quiet legal)
+    subst (λ (p : ClientScript). UsesRegions p part i.regions e) script (uses s j good run n part own.0 own.1 own.2 i.regions c.self.invariant.memory e refl c.requires.quiet legal)
 
 pub act-requires-clause-script : goal.act-requires-clause-script
 act-requires-clause-script c =
@@ -93,7 +92,7 @@ act-requires-clause-may c =
     let script : script_of s n ≡ c.get-script.result.now = some_one (sym there ∙ c.get-script.ensures) in
     let part = c.index_mut-part.result.now in
     let own = part_found s (after s j) n at i.parts.items part c.self.invariant.clients there c.index_mut-part.ensures.value in
-    subst (λ (p : ClientScript). MayAct p c.use_regions.new.regions.count part e) script (subst (λ m. MayAct (script_of s n) m part e) (sym (c.use_regions.ensures.count ∙ c.self.invariant.memory.count)) (may_act s j good run n part own.0 own.1 e refl c.requires.quiet legal))
+    subst (λ (p : ClientScript). MayAct p c.use_regions.new.regions.count part e) script (subst (λ m. MayAct (script_of s n) m part e) (sym (c.use_regions.ensures.count ∙ c.self.invariant.memory.count)) (may_act s j good run n part own.0 own.1 own.2 e refl c.requires.quiet legal))
 
 pub ran-requires-clause-there : goal.ran-requires-clause-there
 ran-requires-clause-there c =
@@ -133,16 +132,16 @@ invariant_of-self-2 c =
     let part = c.index_mut-part.result.now in
     let own = part_found s (after s j) n at i.parts.items part c.self.invariant.clients there c.index_mut-part.ensures.value in
     let next : c.next_command-command.result ≡ next_command (script_of s n) part = c.next_command-command.ensures ∙ ap (λ (p : ClientScript). next_command p part) (sym script) in
-    let heap : heap_of c.use_regions.new.regions ≡ heap_by i.regions.count (heap_of i.regions) e (next_command (script_of s n) part) (run_used part) = c.use_regions.ensures.heap ∙ (λ k. heap_by i.regions.count (heap_of i.regions) e (next k) (c.used_run.ensures k)) in
-    let regions = used s j good run n part own.0 own.1 i.regions c.self.invariant.memory e c.use_regions.new.regions refl c.requires.quiet legal c.use_regions.ensures.count heap in
+    let heap : heap_of c.use_regions.new.regions ≡ heap_by (script_of s n) part i.regions.count (heap_of i.regions) e = c.use_regions.ensures.heap ∙ (λ k. heap_by (sym script k) part i.regions.count (heap_of i.regions) e) in
+    let regions = used s j good run n part own.0 own.1 own.2 i.regions c.self.invariant.memory e c.use_regions.new.regions refl c.requires.quiet legal c.use_regions.ensures.count heap in
     let stamp : c.stamp-stamp.result ≡ (after s j).stamps (window_of s n) = c.stamp-stamp.ensures ∙ (λ k. c.self.invariant.windows.given k (sym script k).window) in
-    let agrees = c.act.ensures.part s (after s j) (sym script) own.0 legal stamp (λ k. not (c.self.invariant.world.owner k == c.client_of-client.ensures k + 1)) (intact s j good run) (λ acts. acting_current s j good run n (inl acts)) regions in
+    let agrees = c.act.ensures.part s (after s j) (sym script) (sym own.2) own.0 legal stamp (λ k. not (c.self.invariant.world.owner k == c.client_of-client.ensures k + 1)) (intact s j good run) (λ acts. acting_current s j good run n (inl acts)) regions in
     let kept : IsKept (script_of s n) s.regions c.act.new.part = subst (λ m. IsKept (script_of s n) m c.act.new.part) (c.use_regions.ensures.count ∙ c.self.invariant.memory.count) (subst (λ (p : ClientScript). IsKept p c.use_regions.new.regions.count c.act.new.part) (sym script) c.act.ensures.kept) in
-    let runs = subst (λ o. Runs s e o) (sym next) (ran_command s j good run n part own.0 own.1 e refl legal) in
+    let runs = subst (λ o. Runs s e o) (sym next) (ran_command s j good run n part own.0 own.1 own.2 e refl legal) in
     faithful s j c.push_reserved.new.self.items e i.board i.board i.regions c.use_regions.new.regions i.parts.items (set i.parts.items at c.act.new.part) i.tally c.ran.new.self i.marks c.after-self-inside.result
     c.self.invariant legal (c.push_reserved.ensures.items ∙ ap (λ xs. xs ++ e ∷ []) c.reserve.ensures.items)
     (board_stays s (after s j) e i.board c.requires.quiet c.self.invariant.windows) regions
-    (parts_step s (after s j) e n at i.parts.items c.act.new.part good refl there c.self.invariant.clients agrees kept)
+    (parts_step s (after s j) e n at i.parts.items c.act.new.part good refl there c.self.invariant.clients agrees kept (c.act.ensures.size ∙ own.2))
     (counted s (tally s j) n at c.ran_by-ran.result i.tally c.ran.new.self good there c.self.invariant.counts c.ran.ensures.frames c.ran.ensures.stood c.ran.ensures.others c.ran.ensures.own c.ran.ensures.room (after s j) e c.next_command-command.result refl c.requires.quiet c.ran_by-ran.ensures runs)
     (c.after-self-inside.ensures s (after s j) c.self.invariant.world)
 
@@ -155,5 +154,5 @@ returns-clause-deed c =
     let part = c.index_mut-part.result.now in
     let own = part_found s (after s j) n at i.parts.items part c.self.invariant.clients there c.index_mut-part.ensures.value in
     let next : c.next_command-command.result ≡ next_command (script_of s n) part = c.next_command-command.ensures ∙ ap (λ (p : ClientScript). next_command p part) (sym script) in
-    let runs = subst (λ o. Runs s e o) (sym next) (ran_command s j good run n part own.0 own.1 e refl legal) in
+    let runs = subst (λ o. Runs s e o) (sym next) (ran_command s j good run n part own.0 own.1 own.2 e refl legal) in
     subst (λ v. Does v.scene (world_of v) e c.deed_by.result) c.self.view_is (subst (λ d. Does s (after s j) e d) (sym (c.deed_by.ensures ∙ ap deed_by c.ran_by-ran.ensures)) (does s (after s j) e c.next_command-command.result c.requires.quiet runs))

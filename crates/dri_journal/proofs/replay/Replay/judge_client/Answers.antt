@@ -1,10 +1,11 @@
-use Rattle.std.proofs.Common.{◌≡◌, ◌∙◌, ◌≤◌, ◌<◌, Some, sym, subst, arith, length}
+use Rattle.std.proofs.Common.{◌≡◌, ◌∙◌, ◌≤◌, ◌<◌, Some, sym, subst, arith}
 use Rattle.std.specs.Prelude.{slice_get, ◌&&◌, ◌||◌, is_none}
+use Rattle.dri_base.proofs.RegionSizes.{region_size_above, region_size_within}
 use Rattle.dri_client.specs.Parts.{next_command}
+use Rattle.dri_client.specs.Textures.{bytes_in}
 use Rattle.dri_core.specs.Decide.{is_die}
 use Rattle.dri_core.specs.Phases.{In, is_done, is_holding, same_phase}
-use Rattle.dri_base.specs.Scenes.{bytes_of, kills_in, regions_for, script_of}
-use Rattle.dri_base.specs.Texels.{texture_in}
+use Rattle.dri_base.specs.Scenes.{kills_in, script_of}
 use Rattle.dri_base.specs.declared.scene.ClientScript.{ClientScript}
 use Rattle.dri_base.proofs.RangeLemmas.{well_formed}
 use Rattle.dri_core.specs.Runs.{after, client_of}
@@ -39,6 +40,28 @@ change-requires c =
     let i = c.self.inside in
     omega (arith, c.self.invariant.world.made, made_bounded i.scene.now i.entries.items c.self.invariant.scene c.self.invariant.run, c.self.invariant.scene.changed.few)
 
+pub place-requires-clause-some : goal.place-requires-clause-some
+place-requires-clause-some c =
+    let i = c.self.inside in let s = i.scene.now in let j = i.entries.items in let at = c.args.at in let good = c.self.invariant.scene in let run = c.self.invariant.run in
+    let requires : slice_get s.clients at ≡ Some (script_of s (client_of c.args.entry.now)) = subst (λ (v : ReplayState). slice_get v.scene.clients at ≡ Some (script_of v.scene (client_of c.args.entry.now))) (sym c.self.view_is) c.requires in
+    let n = c.in-Place.client in
+    let there : slice_get s.clients at ≡ Some (script_of s n) = subst (λ x. slice_get s.clients at ≡ Some (script_of s (client_of x))) c.in-Place.is requires in
+    let script : c.get-script.result.now ≡ script_of s n = some_one (sym c.get-script.ensures ∙ there) in
+    let part = c.index-part.result.now in
+    let own = part_found s (after s j) n at i.parts.items part c.self.invariant.clients there c.index-part.ensures in
+    rw own.2 (region_size_above s.region_size good.card.sized)
+
+pub place-requires-clause-size : goal.place-requires-clause-size
+place-requires-clause-size c =
+    let i = c.self.inside in let s = i.scene.now in let j = i.entries.items in let at = c.args.at in let good = c.self.invariant.scene in let run = c.self.invariant.run in
+    let requires : slice_get s.clients at ≡ Some (script_of s (client_of c.args.entry.now)) = subst (λ (v : ReplayState). slice_get v.scene.clients at ≡ Some (script_of v.scene (client_of c.args.entry.now))) (sym c.self.view_is) c.requires in
+    let n = c.in-Place.client in
+    let there : slice_get s.clients at ≡ Some (script_of s n) = subst (λ x. slice_get s.clients at ≡ Some (script_of s (client_of x))) c.in-Place.is requires in
+    let script : c.get-script.result.now ≡ script_of s n = some_one (sym c.get-script.ensures ∙ there) in
+    let part = c.index-part.result.now in
+    let own = part_found s (after s j) n at i.parts.items part c.self.invariant.clients there c.index-part.ensures in
+    rw own.2 (region_size_within s.region_size good.card.sized).1
+
 pub place-requires-clause-bytes : goal.place-requires-clause-bytes
 place-requires-clause-bytes c =
     let i = c.self.inside in let s = i.scene.now in let j = i.entries.items in let at = c.args.at in let good = c.self.invariant.scene in let run = c.self.invariant.run in
@@ -46,7 +69,9 @@ place-requires-clause-bytes c =
     let n = c.in-Place.client in
     let there : slice_get s.clients at ≡ Some (script_of s n) = subst (λ x. slice_get s.clients at ≡ Some (script_of s (client_of x))) c.in-Place.is requires in
     let script : c.get-script.result.now ≡ script_of s n = some_one (sym c.get-script.ensures ∙ there) in
-    subst (λ (p : ClientScript). length (bytes_of (texture_in p.textures c.in-Place.texture)) ≤ 4194304) (sym script) (texture_small s n c.in-Place.texture good)
+    let part = c.index-part.result.now in
+    let own = part_found s (after s j) n at i.parts.items part c.self.invariant.clients there c.index-part.ensures in
+    subst (λ (p : ClientScript). bytes_in p c.in-Place.texture ≤ 4194304) (sym script) (texture_small s n c.in-Place.texture good)
 
 pub place-requires-clause-needed : goal.place-requires-clause-needed
 place-requires-clause-needed c =
@@ -55,8 +80,9 @@ place-requires-clause-needed c =
     let n = c.in-Place.client in
     let there : slice_get s.clients at ≡ Some (script_of s n) = subst (λ x. slice_get s.clients at ≡ Some (script_of s (client_of x))) c.in-Place.is requires in
     let script : c.get-script.result.now ≡ script_of s n = some_one (sym c.get-script.ensures ∙ there) in
-    subst (λ (p : ClientScript). regions_for s.region_size (length (bytes_of (texture_in p.textures c.in-Place.texture))) ≤ i.regions.count) (sym script)
-    (subst (λ m. regions_for s.region_size (length (bytes_of (texture_in (script_of s n).textures c.in-Place.texture))) ≤ m) (sym c.self.invariant.memory.count) ((well_formed s good).heap n c.in-Place.texture))
+    let part = c.index-part.result.now in
+    let own = part_found s (after s j) n at i.parts.items part c.self.invariant.clients there c.index-part.ensures in
+    rw (script, own.2, c.self.invariant.memory.count) ((well_formed s good).heap n c.in-Place.texture)
 
 pub place-requires-clause-there : goal.place-requires-clause-there
 place-requires-clause-there c =
@@ -67,7 +93,7 @@ place-requires-clause-there c =
     let script : c.get-script.result.now ≡ script_of s n = some_one (sym c.get-script.ensures ∙ there) in
     let part = c.index-part.result.now in
     let own = part_found s (after s j) n at i.parts.items part c.self.invariant.clients there c.index-part.ensures in
-    λ same. subst (λ (p : ClientScript). 0 < length (bytes_of (texture_in p.textures c.in-Place.texture))) (sym script) (needed_bytes s n c.in-Place.texture part good own.1 (number_is _ c.in-Place.texture same))
+    λ same. subst (λ (p : ClientScript). 0 < bytes_in p c.in-Place.texture) (sym script) (needed_bytes s n c.in-Place.texture part good own.1 (number_is _ c.in-Place.texture same))
 
 pub place-requires-clause-age : goal.place-requires-clause-age
 place-requires-clause-age c =
@@ -78,7 +104,7 @@ place-requires-clause-age c =
     let script : c.get-script.result.now ≡ script_of s n = some_one (sym c.get-script.ensures ∙ there) in
     let part = c.index-part.result.now in
     let own = part_found s (after s j) n at i.parts.items part c.self.invariant.clients there c.index-part.ensures in
-    age_small s j good run n part own.0 own.1 i.regions c.self.invariant.memory
+    age_small s j good run n part own.0 own.1 own.2 i.regions c.self.invariant.memory
 
 pub returns-in-Light : goal.returns-in-Light
 returns-in-Light c =
@@ -177,4 +203,4 @@ returns-in-Place c =
     let script : c.get-script.result.now ≡ script_of s n = some_one (sym c.get-script.ensures ∙ there) in
     let part = c.index-part.result.now in
     let own = part_found s (after s j) n at i.parts.items part c.self.invariant.clients there c.index-part.ensures in
-    rw (← c.self.view_is, c.in-Place.is) (c.place.ensures ∙ place s (after s j) n c.get-script.result.now part i.marks script own.0 c.self.invariant.world c.in-Place.texture c.in-Place.first c.in-Place.count i.regions c.self.invariant.memory)
+    rw (← c.self.view_is, c.in-Place.is) (c.place.ensures ∙ place s (after s j) n c.get-script.result.now part i.marks script own.0 c.self.invariant.world c.in-Place.texture c.in-Place.first c.in-Place.count i.regions own.2 c.self.invariant.memory)

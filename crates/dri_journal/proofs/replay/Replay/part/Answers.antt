@@ -1,11 +1,10 @@
-use Rattle.std.proofs.Common.{◌≡◌, Some, sym, refl, subst, arith}
-use Rattle.std.specs.Prelude.{Contains, slice_get}
+use Rattle.std.proofs.Common.{sym, refl, subst, arith}
+use Rattle.std.specs.Prelude.{Contains}
 use Rattle.std.proofs.lemmas.Option.{slice_get_within}
 use Rattle.dri_base.specs.Ranges.{client_numbers}
 use Rattle.dri_base.specs.Scenes.{script_of}
-use Rattle.dri_client.specs.Parts.{Agrees}
 use Rattle.dri_core.specs.Runs.{after}
-use Rattle.dri_journal.specs.Replays.{ReplayState, world_of}
+use Rattle.dri_journal.specs.Replays.{ReplayState}
 use Rattle.dri_journal.proofs.Keeping.{part_found}
 use Rattle.dri_journal.proofs.Whom.{found, is_there}
 use Rattle.dri_journal.proofs.replay.Replay.part.Goals as goal
