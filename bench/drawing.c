@@ -166,6 +166,44 @@ static void swap(rect r) {
     for (int y = r.y1; y < r.y2; y++) memcpy(front + y * WIDTH + r.x1, back + y * WIDTH + r.x1, 4 * (r.x2 - r.x1));
 }
 
+/* The bytes of a plane's pixels, and a list in which those of a rectangle wait. */
+typedef struct { unsigned char *pixels, *lifted; int size; } plane;
+
+static plane plane_of(int size) { return (plane){malloc(size * WIDTH * HEIGHT), malloc(size * WIDTH * HEIGHT), size}; }
+
+static void lift(plane p, rect r) {
+    size_t row = p.size * (r.x2 - r.x1);
+    for (int y = r.y1; y < r.y2; y++) memcpy(p.lifted + row * (y - r.y1), p.pixels + p.size * (y * WIDTH + r.x1), row);
+}
+
+static void lay(plane p, rect r) {
+    size_t row = p.size * (r.x2 - r.x1);
+    for (int y = r.y1; y < r.y2; y++) memcpy(p.pixels + p.size * (y * WIDTH + r.x1), p.lifted + row * (y - r.y1), row);
+}
+
+static void move(const plane planes[3], rect from, rect to) {
+    for (int k = 0; k < 3; k++) lift(planes[k], from);
+    for (int k = 0; k < 3; k++) lay(planes[k], to);
+    __asm__ volatile("" : : : "memory");
+}
+
+/* Moves a rectangle of 600 by 400 there and back so many times, in planes whose pixels have three, three and two bytes. */
+static void move_often(long times) {
+    const rect here = {0, 0, 600, 400}, there = {40, 80, 640, 480};
+    plane planes[3] = {plane_of(3), plane_of(3), plane_of(2)};
+    for (int k = 0; k < WIDTH * HEIGHT; k++) {
+        memcpy(planes[0].pixels + 3 * k, front + k, 3);
+        memcpy(planes[1].pixels + 3 * k, back + k, 3);
+        memcpy(planes[2].pixels + 2 * k, depths + k, 2);
+    }
+    for (long n = 0; n < times; n++) { move(planes, here, there); move(planes, there, here); }
+    for (int k = 0; k < WIDTH * HEIGHT; k++) {
+        memcpy(front + k, planes[0].pixels + 3 * k, 3);
+        memcpy(back + k, planes[1].pixels + 3 * k, 3);
+        memcpy(depths + k, planes[2].pixels + 2 * k, 2);
+    }
+}
+
 static triangle right_angle(int x, int y, int across, int down) {
     vertex a = {x, y, 1000, 255, 0, 0, 255, 0, 0};
     vertex b = {x + across, y, 2000, 0, 255, 0, 128, 1023, 0};
@@ -234,18 +272,20 @@ int main(int argc, char **argv) {
             for (int k = 0; k < TEXTURES; k++) bound[k][SIDE * y + x] = (x * (k + 1) + y) % 256;
         }
     clear(whole, packed(10, 20, 30), 65535);
-    int is_clear = !strcmp(part, "clear"), is_swap = !strcmp(part, "swap"), is_load = !strcmp(part, "load");
+    int is_clear = !strcmp(part, "clear"), is_swap = !strcmp(part, "swap"), is_load = !strcmp(part, "load"), is_move = !strcmp(part, "move");
     if (!strcmp(part, "flat")) count = window_halves(ts);
     else if (!strcmp(part, "smooth")) { count = window_halves(ts); by.shade = SMOOTH; }
     else if (!strcmp(part, "blended")) { count = window_halves(ts); by.shade = SMOOTH; by.blend = MIXED; }
     else if (!strcmp(part, "textured")) { count = window_halves(ts); by = (rules){FLAT, LESS_EQUAL, 1, OPAQUE, MODULATED}; }
     else if (!strcmp(part, "cells")) { count = grid(ts, 256, 256); by = (rules){FLAT, LESS_EQUAL, 1, OPAQUE, MODULATED}; }
+    else if (is_move) count = grid(ts, 256, 256);
     else if (!strcmp(part, "tiny")) count = grid(ts, 48, 48);
     else if (!strcmp(part, "row")) count = grid(ts, 256, 16);
     else if (!strcmp(part, "nothing")) count = grid(ts, 6, 6);
     else if (!strcmp(part, "sliver")) count = slivers(ts);
     else if (!is_clear && !is_swap && !is_load) return 2;
     bytes = malloc(5 * WIDTH * HEIGHT);
+    if (is_move) { draw(ts, count, &texture, whole, by); swap(whole); move_often(times); times = 0; }
     for (long n = 0; n < times; n++) {
         if (is_clear) { memset(bytes, (int)n, 5 * WIDTH * HEIGHT); __asm__ volatile("" : : "r"(bytes) : "memory"); }
         else if (is_swap) { swap(whole); __asm__ volatile("" : : : "memory"); }

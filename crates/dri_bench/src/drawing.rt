@@ -29,6 +29,19 @@ const CELLS_ACROSS: u16 = 20;
 
 const CELLS_DOWN: u16 = 15;
 
+/// The rectangle that is moved.
+const MOVED: ClipRect = ClipRect {
+    x1: 0,
+    y1: 0,
+    x2: 600,
+    y2: 400,
+};
+
+/// How far it is moved, there and back.
+const ACROSS: i32 = 40;
+
+const DOWN: i32 = 80;
+
 /// The side of the texture, in texels.
 const SIDE: u16 = 64;
 
@@ -55,6 +68,7 @@ pub enum Work {
     Sliver,
     Clear,
     Swap,
+    Move,
     Load,
 }
 
@@ -73,6 +87,7 @@ impl Work {
             "sliver" => Some(Work::Sliver),
             "clear" => Some(Work::Clear),
             "swap" => Some(Work::Swap),
+            "move" => Some(Work::Move),
             "load" => Some(Work::Load),
             _ => None,
         }
@@ -109,7 +124,7 @@ impl Work {
     fn buffer(self) -> Buffer {
         match self {
             Work::Clear | Work::Swap | Work::Load => Buffer::new(),
-            Work::Cells => grid(256, 256),
+            Work::Cells | Work::Move => grid(256, 256),
             Work::Tiny => grid(48, 48),
             Work::Row => grid(256, 16),
             Work::Nothing => grid(6, 6),
@@ -305,12 +320,29 @@ fn repeat<L: Ledger>(card: &mut Card, work: Work, times: u32, blank: Blank) -> O
     if work == Work::Load {
         return load::draw(card, times, &mut steps);
     }
+    if work == Work::Move {
+        card.dispatch(&buffer, origin, &mut steps).ok()?;
+        card.swap(screen, &mut steps).ok()?;
+    }
     for _ in 0..times {
         match work {
             Work::Clear => card.clear(screen, BACKGROUND, 65_535, &mut steps).ok()?,
             Work::Swap => card.swap(screen, &mut steps).ok()?,
+            Work::Move => move_there_and_back(card, &mut steps)?,
             _ => card.dispatch(&buffer, origin, &mut steps).ok()?,
         }
     }
     Some(())
+}
+
+/// Carries a rectangle, and carries it back.
+fn move_there_and_back<L: Ledger>(card: &mut Card, steps: &mut Steps<L>) -> Option<()> {
+    let there = ClipRect {
+        x1: 40,
+        y1: 80,
+        x2: 640,
+        y2: 480,
+    };
+    card.carry(&[MOVED], ACROSS, DOWN, steps).ok()?;
+    card.carry(&[there], -ACROSS, -DOWN, steps).ok()
 }

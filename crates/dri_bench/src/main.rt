@@ -97,7 +97,7 @@ fn main(rt: HostRuntime) -> io::Result<ExitCode> {
     for words in words.as_slice().chunks(2) {
         let Some(part) = part_of(words) else {
             eprintln!(rt;
-                "usage: dri_bench [PART TIMES].., with PART pairs, contend, flat, smooth, blended, textured, cells, tiny, row, nothing, sliver, clear, swap, load, unite:N:N, subtract:N:N, intersect:N:N, overlap:N or apart:N"
+                "usage: dri_bench [PART TIMES].., with PART pairs, contend, flat, smooth, blended, textured, cells, tiny, row, nothing, sliver, clear, swap, move, load, unite:N:N, subtract:N:N, intersect:N:N, overlap:N or apart:N"
             )?;
             return Ok(ExitCode::from(USAGE));
         };
