@@ -3,7 +3,7 @@
 ghost use Rattle.std.specs.Prelude.{◌≡◌};
 
 use dri_base::{ClipRect, Steps};
-use dri_plane::Plane;
+use dri_plane::{Lifted, Plane};
 use std::alloc::Global;
 use std::marker::Brand;
 use std::process::Abort;
@@ -33,6 +33,11 @@ fn call_each<L: Ledger, R: Abort>(rt: &R, alloc: Global, blank: Blank) -> Result
     assert_eq!(rt; plane.pixels(), [7, 7, 2].as_slice());
     plane.copy_from(&saved, &left, &mut steps);
     assert_eq!(rt; plane.pixels(), [9, 9, 2].as_slice());
+    let mut lifted = Lifted::new(alloc, 2)?;
+    plane.read_out(&[left], &mut lifted, &mut steps);
+    plane.fill(&left, 7, &mut steps);
+    plane.write_in(&[left], 1, 0, &lifted, &mut steps);
+    assert_eq!(rt; plane.pixels(), [7, 9, 9].as_slice());
     assert_eq!(rt; (plane.width(), plane.height()), (3, 1));
     Ok(())
 }

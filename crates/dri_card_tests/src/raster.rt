@@ -8,6 +8,7 @@ ghost use Rattle.dri_card_tests.specs.Largest.{largest};
 
 use dri_base::{Point, Rect, Rgba, Triangle, Vertex};
 use dri_raster::{Channel, Setup, Span, common_edge, covered_is_amid};
+use std::alloc::Global;
 use std::process::Abort;
 use std::test::Fail;
 
@@ -70,20 +71,31 @@ fn halves(rt: HostRuntime) -> Result<(), Fail> {
     for y in 0..4u8 {
         for x in 0..4u8 {
             let (column, row) = (i32::from(x), i32::from(y));
-            assert_eq!(rt; first.covers(column, row), x + y <= 2);
-            assert_eq!(rt; second.covers(column, row), x + y > 2);
+            assert!(rt; first.covers(column, row) == (x + y <= 2));
+            assert!(rt; second.covers(column, row) == (x + y > 2));
         }
     }
-    let points: Vec<Point> = first.for_rect(&SQUARE).collect(rt.alloc())?;
-    let places: [(i32, i32); 6] = [(0, 0), (1, 0), (2, 0), (0, 1), (1, 1), (0, 2)];
-    assert_eq!(rt; points.len(), 6);
-    for (point, (x, y)) in points.iter().zip(places) {
-        assert!(rt; *point == Point { x, y });
-    }
-    assert_eq!(rt; second.for_rect(&SQUARE).count(), 10);
-    assert_eq!(rt; first.span(0, &SQUARE), Some(Span { x1: 0, x2: 3 }));
-    assert_eq!(rt; first.span(2, &SQUARE), Some(Span { x1: 0, x2: 1 }));
-    assert!(rt; first.span(3, &SQUARE).is_none());
+    assert!(rt; second.for_rect(&SQUARE).count() == 10);
+    upper_half(&rt, rt.alloc(), &first)
+}
+
+/// The upper half's pixels, row by row.
+const UPPER: [Point; 6] = [
+    Point { x: 0, y: 0 },
+    Point { x: 1, y: 0 },
+    Point { x: 2, y: 0 },
+    Point { x: 0, y: 1 },
+    Point { x: 1, y: 1 },
+    Point { x: 0, y: 2 },
+];
+
+/// Expects the upper half's pixels and spans.
+fn upper_half(rt: &impl Abort, alloc: Global, setup: &Setup) -> Result<(), Fail> {
+    let points: Vec<Point> = setup.for_rect(&SQUARE).collect(alloc)?;
+    assert!(rt; points.as_slice() == UPPER.as_slice());
+    assert!(rt; setup.span(0, &SQUARE) == Some(Span { x1: 0, x2: 3 }));
+    assert!(rt; setup.span(2, &SQUARE) == Some(Span { x1: 0, x2: 1 }));
+    assert!(rt; setup.span(3, &SQUARE).is_none());
     Ok(())
 }
 
@@ -92,6 +104,17 @@ fn largest_numbers()
     ensures doubled { area largest ≡ pos 4294836225 }
     ensures sum { weighed (turned largest) (λ v. v.z) (centre (neg_ℤ (pos 1)) (neg_ℤ (pos 1))) ≡ pos 281462092005375 }
 {}
+
+/// What its corners carry, and so each of its pixels.
+const CARRIED: [(Channel, u32); 7] = [
+    (Channel::Z, 65535),
+    (Channel::R, 255),
+    (Channel::G, 128),
+    (Channel::B, 64),
+    (Channel::A, 0),
+    (Channel::S, 16),
+    (Channel::T, 32),
+];
 
 /// The largest triangle, at a pixel of its middle.
 #[test]
@@ -104,16 +127,8 @@ fn largest(rt: HostRuntime) {
     };
     let setup = Setup::new(&triangle).expect(&rt, "the triangle has an area");
     assert!(rt; setup.covers(-1, -1));
-    for (channel, value) in [
-        (Channel::Z, 65535),
-        (Channel::R, 255),
-        (Channel::G, 128),
-        (Channel::B, 64),
-        (Channel::A, 0),
-        (Channel::S, 16),
-        (Channel::T, 32),
-    ] {
-        assert_eq!(rt; setup.value_at(channel, -1, -1), value);
+    for (channel, value) in CARRIED {
+        assert!(rt; setup.value_at(channel, -1, -1) == value);
     }
 }
 
@@ -131,11 +146,11 @@ fn running(rt: HostRuntime) {
     assert!(rt; setup.covers(1, 0));
     assert!(rt; setup.covers(2, 0));
     let mut runner = setup.runner(Channel::Z, 0, 0);
-    assert_eq!(rt; runner.value(), 8);
+    assert!(rt; runner.value() == 8);
     runner.step();
-    assert_eq!(rt; runner.value(), 24);
+    assert!(rt; runner.value() == 24);
     runner.step();
-    assert_eq!(rt; runner.value(), 40);
+    assert!(rt; runner.value() == 40);
 }
 
 /// Three equal points have no area.
@@ -208,60 +223,68 @@ fn are_row_spans<R: Abort>(rt: &R, setup: &Setup, rect: &Rect) -> bool
     true
 }
 
-/// How many pixels odd triangles cover: of the square, one a pixel wide, one of a row, and those that lie wholly left, right,
-/// above and below; of the middle, one whose corners are as far apart as can be. Their spans are what they cover, pixel by
-/// pixel.
+/// The places of a triangle's corners, and how many pixels it covers of the square and of the middle.
+type Covered = ([(i32, i32); 3], usize, usize);
+
+/// Of the square: one a pixel wide, one of a row, and those that lie wholly left, right, above and below; of the middle: one
+/// whose corners are as far apart as can be.
+const ODD: [Covered; 7] = [
+    ([(16, 0), (32, 0), (16, 64)], 2, 2),
+    ([(0, 0), (64, 0), (0, 16)], 2, 2),
+    ([(-64, 0), (-16, 0), (-64, 64)], 0, 1),
+    ([(80, 0), (144, 0), (80, 64)], 0, 0),
+    ([(0, -64), (64, -64), (0, -16)], 0, 1),
+    ([(0, 80), (64, 80), (0, 144)], 0, 0),
+    ([(-32768, -32768), (32767, -32768), (-32768, 32767)], 0, 6),
+];
+
+/// Their spans are what they cover, pixel by pixel.
 #[test]
 fn odd(rt: HostRuntime) -> Result<(), Fail> {
-    for (places, in_square, in_middle) in [
-        ([(16, 0), (32, 0), (16, 64)], 2, 2),
-        ([(0, 0), (64, 0), (0, 16)], 2, 2),
-        ([(-64, 0), (-16, 0), (-64, 64)], 0, 1),
-        ([(80, 0), (144, 0), (80, 64)], 0, 0),
-        ([(0, -64), (64, -64), (0, -16)], 0, 1),
-        ([(0, 80), (64, 80), (0, 144)], 0, 0),
-        ([(-32768, -32768), (32767, -32768), (-32768, 32767)], 0, 6),
-    ] {
+    for (places, in_square, in_middle) in ODD {
         let setup = Setup::new(&triangle(&rt, places)).expect(&rt, "the triangle has an area");
         let square: Vec<Point> = setup.for_rect(&SQUARE).collect(rt.alloc())?;
         let middle: Vec<Point> = setup.for_rect(&MIDDLE).collect(rt.alloc())?;
-        assert_eq!(rt; square.len(), in_square);
-        assert_eq!(rt; middle.len(), in_middle);
+        assert!(rt; square.len() == in_square);
+        assert!(rt; middle.len() == in_middle);
         assert!(rt; are_row_spans(&rt, &setup, &SQUARE));
         assert!(rt; are_row_spans(&rt, &setup, &MIDDLE));
     }
     Ok(())
 }
 
-/// Eight triangles round the centre of a pixel, whose common edges go in all eight directions through centres: each pixel of
-/// the square of eight by eight that they make is covered by one of them.
+/// The corners of a square of eight by eight pixels and the middles of its sides, in turn, back to the first.
+const RING: [(i32, i32); 9] = [
+    (136, 72),
+    (136, 136),
+    (72, 136),
+    (8, 136),
+    (8, 72),
+    (8, 8),
+    (72, 8),
+    (136, 8),
+    (136, 72),
+];
+
+/// How many of the eight triangles between its centre and the ring cover a pixel.
+fn times_covered(rt: &impl Abort, x: u8, y: u8) -> u32 {
+    let mut times: u32 = 0;
+    for i in 0..8_usize {
+        let places = [(72, 72), RING[i], RING[i + 1]];
+        let setup = Setup::new(&triangle(rt, places)).expect(rt, "the triangle has an area");
+        if setup.covers(i32::from(x), i32::from(y)) {
+            times = times.wrapping_add(1);
+        }
+    }
+    times
+}
+
+/// The triangles' common edges go in all eight directions through centres: each pixel of the square is covered by one.
 #[test]
 fn fan(rt: HostRuntime) {
-    let ring = [
-        (136, 72),
-        (136, 136),
-        (72, 136),
-        (8, 136),
-        (8, 72),
-        (8, 8),
-        (72, 8),
-        (136, 8),
-        (136, 72),
-    ];
     for y in 0..8u8 {
         for x in 0..8u8 {
-            let mut times: u32 = 0;
-            for i in 0..8_usize {
-                let places = [(72, 72), ring[i], ring[i + 1]];
-                let setup = Setup::new(&triangle(&rt, places)).expect(
-                    &rt,
-                    "the triangle has an area",
-                );
-                if setup.covers(i32::from(x), i32::from(y)) {
-                    times = times.wrapping_add(1);
-                }
-            }
-            assert_eq!(rt; times, 1);
+            assert!(rt; times_covered(&rt, x, y) == 1);
         }
     }
 }

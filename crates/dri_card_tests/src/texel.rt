@@ -60,73 +60,79 @@ fn draw_round_the_depth(rt: &impl Abort, depth_func: DepthFunc, drawn: [bool; 3]
     }
 }
 
+/// Each depth function, and whether it draws below, at and above the depth under the pixel.
+const DRAWN: [(DepthFunc, [bool; 3]); 8] = [
+    (DepthFunc::Never, [false, false, false]),
+    (DepthFunc::Less, [true, false, false]),
+    (DepthFunc::Equal, [false, true, false]),
+    (DepthFunc::LessEqual, [true, true, false]),
+    (DepthFunc::Greater, [false, false, true]),
+    (DepthFunc::NotEqual, [true, false, true]),
+    (DepthFunc::GreaterEqual, [false, true, true]),
+    (DepthFunc::Always, [true, true, true]),
+];
+
 #[test]
 fn depths(rt: HostRuntime) {
-    for (depth_func, drawn) in [
-        (DepthFunc::Never, [false, false, false]),
-        (DepthFunc::Less, [true, false, false]),
-        (DepthFunc::Equal, [false, true, false]),
-        (DepthFunc::LessEqual, [true, true, false]),
-        (DepthFunc::Greater, [false, false, true]),
-        (DepthFunc::NotEqual, [true, false, true]),
-        (DepthFunc::GreaterEqual, [false, true, true]),
-        (DepthFunc::Always, [true, true, true]),
-    ] {
+    for (depth_func, drawn) in DRAWN {
         draw_round_the_depth(&rt, depth_func, drawn);
     }
-    assert_eq!(rt; fragment(&PLAIN, None, COLOUR, 7, UNDER).depth, 7);
+    assert!(rt; fragment(&PLAIN, None, COLOUR, 7, UNDER).depth == 7);
     pixel_rule();
 }
 
+/// A mode and its texel, a blending, and the red, the green and the blue that they leave.
+const COLOURS: [(TexMode, Option<Rgb>, Blend, [u8; 3]); 8] = [
+    (TexMode::Off, None, Blend::Off, [255, 128, 0]),
+    (TexMode::Off, None, Blend::Alpha, [192, 128, 0]),
+    (TexMode::Off, None, Blend::Add, [255, 255, 0]),
+    (TexMode::Replace, Some(TEXEL), Blend::Off, [10, 128, 255]),
+    (TexMode::Replace, None, Blend::Off, [255, 128, 0]),
+    (TexMode::Replace, Some(TEXEL), Blend::Alpha, [69, 128, 128]),
+    (TexMode::Modulate, Some(TEXEL), Blend::Off, [10, 64, 0]),
+    (TexMode::Modulate, Some(TEXEL), Blend::Add, [138, 192, 0]),
+];
+
 #[test]
 fn colours(rt: HostRuntime) {
-    for (tex_mode, texel, blend, colour) in [
-        (TexMode::Off, None, Blend::Off, rgb(255, 128, 0)),
-        (TexMode::Off, None, Blend::Alpha, rgb(192, 128, 0)),
-        (TexMode::Off, None, Blend::Add, rgb(255, 255, 0)),
-        (TexMode::Replace, Some(TEXEL), Blend::Off, rgb(10, 128, 255)),
-        (TexMode::Replace, None, Blend::Off, rgb(255, 128, 0)),
-        (
-            TexMode::Replace,
-            Some(TEXEL),
-            Blend::Alpha,
-            rgb(69, 128, 128),
-        ),
-        (TexMode::Modulate, Some(TEXEL), Blend::Off, rgb(10, 64, 0)),
-        (TexMode::Modulate, Some(TEXEL), Blend::Add, rgb(138, 192, 0)),
-    ] {
+    for (tex_mode, texel, blend, [r, g, b]) in COLOURS {
         let registers = RegisterView {
             blend,
             tex_mode,
             ..PLAIN
         };
         let left = fragment(&registers, texel, COLOUR, 500, UNDER);
-        assert!(rt; left.colour == colour);
+        assert!(rt; left.colour == rgb(r, g, b));
     }
 }
 
+const GREY: TexShape = TexShape {
+    format: TexFormat::L8,
+    width: 1,
+    height: 1,
+};
+
+const COLOURED: TexShape = TexShape {
+    format: TexFormat::Rgb565,
+    width: 2,
+    height: 2,
+};
+
+/// How the coloured texture goes on, a place in it, and the colour there.
+const TEXELS: [(Wrap, u32, u32, [u8; 3]); 7] = [
+    (Wrap::Repeat, 15, 15, [255, 0, 0]),
+    (Wrap::Repeat, 16, 0, [0, 4, 0]),
+    (Wrap::Repeat, 0, 16, [0, 0, 8]),
+    (Wrap::Repeat, 31, 31, [255, 255, 255]),
+    (Wrap::Repeat, 32, 0, [255, 0, 0]),
+    (Wrap::Clamp, 32, 0, [0, 4, 0]),
+    (Wrap::Clamp, 0, 65535, [0, 0, 8]),
+];
+
 #[test]
 fn texels(rt: HostRuntime) {
-    let grey = TexShape {
-        format: TexFormat::L8,
-        width: 1,
-        height: 1,
-    };
-    assert!(rt; fetch(&MEMORY, 0, &grey, Wrap::Repeat, 5, 99) == rgb(9, 9, 9));
-    let coloured = TexShape {
-        format: TexFormat::Rgb565,
-        width: 2,
-        height: 2,
-    };
-    for (wrap, s, t, colour) in [
-        (Wrap::Repeat, 15, 15, rgb(255, 0, 0)),
-        (Wrap::Repeat, 16, 0, rgb(0, 4, 0)),
-        (Wrap::Repeat, 0, 16, rgb(0, 0, 8)),
-        (Wrap::Repeat, 31, 31, rgb(255, 255, 255)),
-        (Wrap::Repeat, 32, 0, rgb(255, 0, 0)),
-        (Wrap::Clamp, 32, 0, rgb(0, 4, 0)),
-        (Wrap::Clamp, 0, 65535, rgb(0, 0, 8)),
-    ] {
-        assert!(rt; fetch(&MEMORY, 1, &coloured, wrap, s, t) == colour);
+    assert!(rt; fetch(&MEMORY, 0, &GREY, Wrap::Repeat, 5, 99) == rgb(9, 9, 9));
+    for (wrap, s, t, [r, g, b]) in TEXELS {
+        assert!(rt; fetch(&MEMORY, 1, &COLOURED, wrap, s, t) == rgb(r, g, b));
     }
 }

@@ -1,11 +1,12 @@
 //! Two windows of 2 by 2 on a screen of 2 by 2: what each change touches, and which changes are refused. And four windows on a
 //! screen of 4 by 4, of which some have one pixel, hang off the screen or share a rectangle: each kind of change, and a death.
+//! And what a window carries along that is moved over itself, off the screen, under another one or onto it.
 
 ghost use Rattle.std.specs.Prelude.{◌≡◌, ◌≤◌, ◌+◌, IfOk};
 ghost use Rattle.dri_leaf_tests.specs.Boards.{HasBoth};
 
 use dri_base::{Change, ClipRect, OutOfMemory, Point, Rgb, Scene, Sequence, Steps, Window};
-use dri_clips::{Board, ChangeFault, Paint, Touched};
+use dri_clips::{Board, Carry, ChangeFault, Paint, Touched};
 use std::alloc::Global;
 use std::marker::Brand;
 use std::process::Abort;
@@ -262,7 +263,7 @@ const CHANGES: [Row; 22] = [
             (0, [0, 0, 2, 1]),
             (0, [0, 1, 1, 2]),
             (1, [3, 2, 4, 3]),
-            (1, [2, 3, 4, 4]),
+            (1, [2, 3, 3, 4]),
         ],
     ),
     Row(
@@ -345,7 +346,7 @@ const CHANGES: [Row; 22] = [
             y: -1,
         },
         &[2, 3],
-        &[(2, [3, 0, 4, 1]), (3, [1, 1, 3, 2]), (3, [1, 2, 2, 3])],
+        &[(3, [1, 1, 3, 2]), (3, [1, 2, 2, 3])],
     ),
     Row(
         Change::Move {
@@ -389,18 +390,9 @@ fn are_paints(paints: &[Paint], wanted: &[(u8, [u16; 4])]) -> bool {
     true
 }
 
-/// Whether a row's change touches and paints what the row says.
-fn is_as_told<L: Ledger>(
-    alloc: Global,
-    board: &mut Board,
-    row: &Row,
-    steps: &mut Steps<L>,
-) -> Result<bool, ChangeFault>
-    requires { board.old.counter ≤ 2000 }
-    ensures { board.new.counter ≤ board.old.counter + 64 }
-{
-    let touched = apply(alloc, board, &row.0, steps)?;
-    Ok(touched.windows.as_slice() == row.1 && are_paints(touched.paints.as_slice(), row.2))
+/// Whether these windows are touched, and these the paints.
+fn touches(touched: &Touched, windows: &[u32], paints: &[(u8, [u16; 4])]) -> bool {
+    touched.windows.as_slice() == windows && are_paints(touched.paints.as_slice(), paints)
 }
 
 fn change_each<L: Ledger, R: Abort>(rt: &R, alloc: Global, blank: Blank) -> Result<(), Fail>
@@ -411,13 +403,181 @@ fn change_each<L: Ledger, R: Abort>(rt: &R, alloc: Global, blank: Blank) -> Resu
     let mut steps = Steps::<L>::new(blank);
     let mut board = four_windows(alloc)?;
     for i in 0..CHANGES.len() {
-        assert!(rt; is_as_told(alloc, &mut board, &CHANGES[i], &mut steps)?);
+        let Row(change, windows, paints) = CHANGES[i];
+        let touched = apply(alloc, &mut board, &change, &mut steps)?;
+        assert!(rt; touches(&touched, windows, paints));
     }
     let died = bury(alloc, &mut board, 2, &mut steps)?;
-    assert!(rt; died.windows.as_slice() == [2, 3, 4].as_slice());
     let bared = [(0, [1, 1, 3, 2]), (0, [1, 2, 2, 3]), (4, [3, 0, 4, 1])];
-    assert!(rt; are_paints(died.paints.as_slice(), &bared));
+    assert!(rt; touches(&died, &[2, 3, 4], &bared));
+    assert!(rt; died.carry.is_none() && !died.whole());
     Ok(())
+}
+
+/// On a screen of 4 by 2 window 2, which has one pixel, stands over window 1 of two, and window 3 isn't mapped.
+fn three_windows(alloc: Global) -> Result<Board, OutOfMemory>
+    ensures { IfOk result (λ board. board.counter ≡ 1) }
+{
+    let mut windows = Sequence::new(alloc);
+    windows.push(Window {
+        mapped: false,
+        ..square(3, 1, 0, 0, 1)
+    })?;
+    windows.push(square(2, 2, 3, 1, 1))?;
+    windows.push(Window {
+        height: 1,
+        ..square(1, 1, 0, 0, 2)
+    })?;
+    let scene = Scene {
+        width: 4,
+        height: 2,
+        root: grey(0),
+        regions: 1,
+        region_size: 256,
+        windows,
+        clients: Sequence::new(alloc),
+        changes: Sequence::new(alloc),
+        turns: Sequence::new(alloc),
+    };
+    if !scene.in_range() {
+        return Err(OutOfMemory);
+    }
+    Board::new(alloc, &scene)
+}
+
+/// A window that is moved, and its new corner; the windows that are touched, and the paints; what is carried, if something
+/// is, and how far; and whether the window moves whole.
+#[derive(Clone, Copy)]
+struct Moved {
+    to: (u32, i32, i32),
+    windows: &'static [u32],
+    paints: &'static [(u8, [u16; 4])],
+    carry: Option<([u16; 4], i32, i32)>,
+    whole: bool,
+}
+
+const MOVES: [Moved; 11] = [
+    // over itself, nowhere, partly off the screen, and back
+    Moved {
+        to: (1, 1, 0),
+        windows: &[1],
+        paints: &[(0, [0, 0, 1, 1])],
+        carry: Some(([0, 0, 2, 1], 1, 0)),
+        whole: true,
+    },
+    Moved {
+        to: (1, 1, 0),
+        windows: &[],
+        paints: &[],
+        carry: Some(([1, 0, 3, 1], 0, 0)),
+        whole: true,
+    },
+    Moved {
+        to: (1, 3, 0),
+        windows: &[1],
+        paints: &[(0, [1, 0, 3, 1])],
+        carry: Some(([1, 0, 2, 1], 2, 0)),
+        whole: false,
+    },
+    Moved {
+        to: (1, 0, 0),
+        windows: &[1],
+        paints: &[(0, [3, 0, 4, 1]), (1, [1, 0, 2, 1])],
+        carry: Some(([3, 0, 4, 1], -3, 0)),
+        whole: false,
+    },
+    // partly under window 2, and back; window 2 onto window 1, and off it
+    Moved {
+        to: (1, 2, 1),
+        windows: &[1],
+        paints: &[(0, [0, 0, 2, 1])],
+        carry: Some(([0, 0, 1, 1], 2, 1)),
+        whole: false,
+    },
+    Moved {
+        to: (1, 0, 0),
+        windows: &[1],
+        paints: &[(0, [2, 1, 3, 2]), (1, [1, 0, 2, 1])],
+        carry: Some(([2, 1, 3, 2], -2, -1)),
+        whole: false,
+    },
+    Moved {
+        to: (2, 1, 0),
+        windows: &[1, 2],
+        paints: &[(0, [3, 1, 4, 2])],
+        carry: Some(([3, 1, 4, 2], -2, -1)),
+        whole: true,
+    },
+    Moved {
+        to: (2, 0, 1),
+        windows: &[1, 2],
+        paints: &[(1, [1, 0, 2, 1])],
+        carry: Some(([1, 0, 2, 1], -1, 1)),
+        whole: true,
+    },
+    // a window that isn't mapped; one half off the edge, and then where window 2 covers what comes onto the screen
+    Moved {
+        to: (3, 1, 0),
+        windows: &[3],
+        paints: &[],
+        carry: None,
+        whole: true,
+    },
+    Moved {
+        to: (1, -1, 0),
+        windows: &[1],
+        paints: &[(0, [1, 0, 2, 1])],
+        carry: Some(([1, 0, 2, 1], -1, 0)),
+        whole: false,
+    },
+    Moved {
+        to: (1, 0, 1),
+        windows: &[1],
+        paints: &[(0, [0, 0, 1, 1])],
+        carry: Some(([0, 0, 1, 1], 1, 1)),
+        whole: true,
+    },
+];
+
+/// Whether what is carried is this rectangle, so far, or nothing.
+fn is_carry(carry: &Option<Carry>, wanted: Option<([u16; 4], i32, i32)>) -> bool {
+    let Some(carry) = carry else {
+        return wanted.is_none();
+    };
+    let Some(wanted) = wanted else {
+        return false;
+    };
+    let ([x1, y1, x2, y2], dx, dy) = wanted;
+    let rect = ClipRect { x1, y1, x2, y2 };
+    carry.rects.as_slice() == [rect].as_slice() && carry.dx == dx && carry.dy == dy
+}
+
+fn move_each<L: Ledger, R: Abort>(rt: &R, alloc: Global, blank: Blank) -> Result<(), Fail>
+    requires name { blank.name ≡ L.name }
+    requires parts { blank.parts ≡ L.parts }
+    requires one { L.parts ≡ 1 }
+{
+    let mut steps = Steps::<L>::new(blank);
+    let mut board = three_windows(alloc)?;
+    for i in 0..MOVES.len() {
+        let row = &MOVES[i];
+        let (window, x, y) = row.to;
+        let touched = apply(
+            alloc,
+            &mut board,
+            &Change::Move { window, x, y },
+            &mut steps,
+        )?;
+        assert!(rt; touches(&touched, row.windows, row.paints));
+        assert!(rt; is_carry(&touched.carry, row.carry));
+        assert!(rt; touched.whole() == row.whole);
+    }
+    Ok(())
+}
+
+#[test]
+fn moves(rt: HostRuntime) -> Result<(), Fail> {
+    move_each::<Brand, _>(&rt, rt.alloc(), Blank::new(1))
 }
 
 #[test]

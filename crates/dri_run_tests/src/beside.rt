@@ -80,7 +80,7 @@ impl Gate for Rendezvous {
 const MOST_LOOKS: u32 = 16_777_216;
 
 /// 1 where the other comes within some time.
-fn comes(came: &AtomicU32) -> u32 {
+pub(crate) fn comes(came: &AtomicU32) -> u32 {
     for _ in 0..MOST_LOOKS {
         yield_now();
         if came.load(Ordering::SeqCst) == 1 {
@@ -91,7 +91,7 @@ fn comes(came: &AtomicU32) -> u32 {
 }
 
 /// Runs a scene's text, and compares the picture and the beginning of the notes.
-fn runs<R: Threads + Wait + Abort + Sync, G: Gate + Sync>(
+pub(crate) fn runs<R: Threads + Wait + Abort + Sync, G: Gate + Sync>(
     rt: &R,
     alloc: Global,
     gate: &G,

@@ -4,12 +4,12 @@
 #[cfg(test)]
 mod beside;
 #[cfg(test)]
+mod between;
+#[cfg(test)]
 mod deaths;
 #[cfg(test)]
 mod ends;
 #[cfg(test)]
 mod run;
-#[cfg(test)]
-mod solo_and_make;
 #[cfg(test)]
 mod threads;

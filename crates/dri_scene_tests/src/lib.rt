@@ -2,14 +2,8 @@
 #![tactic(auto)]
 
 #[cfg(test)]
-mod checked;
-#[cfg(test)]
-mod damaged;
-#[cfg(test)]
-mod journal;
-#[cfg(test)]
 mod picture;
 #[cfg(test)]
 mod replayed;
 #[cfg(test)]
-mod scene;
+mod texts;

@@ -1,10 +1,11 @@
 //! Pictures of two pixels, as a plane and as a list of pixels.
 
-use dri_base::{Rgb, Sequence};
+use dri_base::{Bytes, Rgb, Sequence};
 use dri_io::{CallList, MemorySink};
 use dri_meaning::Picture;
 use dri_plane::Plane;
 use dri_ppm::{picture_bytes, ppm_bytes, write_ppm};
+use std::alloc::Global;
 use std::process::Abort;
 use std::test::Fail;
 
@@ -16,25 +17,18 @@ const LIGHT: Rgb = Rgb {
     b: 10,
 };
 
-#[test]
-fn one_colour(rt: HostRuntime) -> Result<(), Fail> {
-    let plane = Plane::new(rt.alloc(), 1, 2, DARK)?;
-    let text = b"P6\n1 2\n255\n\x01\x02\x03\x01\x02\x03";
-    assert_eq!(rt; ppm_bytes(rt.alloc(), &plane)?.as_slice(), text.as_slice());
-    let mut sink = MemorySink::new(rt.alloc(), 17, 4, CallList::new(rt.alloc()))?;
-    assert!(rt; write_ppm(&plane, &mut sink).is_ok());
-    assert_eq!(rt; sink.bytes(), text.as_slice());
-    let mut fails = CallList::new(rt.alloc());
-    fails.push(2)?;
-    let mut failing = MemorySink::new(rt.alloc(), 17, 4, fails)?;
-    assert!(rt; write_ppm(&plane, &mut failing).is_err());
-    assert_eq!(rt; failing.bytes(), b"P6\n1".as_slice());
-    Ok(())
+/// A dark column, and a row of both.
+const COLUMN: &[u8] = b"P6\n1 2\n255\n\x01\x02\x03\x01\x02\x03";
+
+const ROW: &[u8] = b"P6\n2 1\n255\n\x01\x02\x03\xfe\xff\x0a";
+
+fn column(alloc: Global) -> Result<Bytes, Fail> {
+    let plane = Plane::new(alloc, 1, 2, DARK)?;
+    Ok(ppm_bytes(alloc, &plane)?)
 }
 
-#[test]
-fn two_colours(rt: HostRuntime) -> Result<(), Fail> {
-    let mut pixels = Sequence::new(rt.alloc());
+fn row(alloc: Global) -> Result<Bytes, Fail> {
+    let mut pixels = Sequence::new(alloc);
     pixels.push(DARK)?;
     pixels.push(LIGHT)?;
     let picture = Picture {
@@ -42,10 +36,38 @@ fn two_colours(rt: HostRuntime) -> Result<(), Fail> {
         height: 1,
         pixels,
     };
-    let text = b"P6\n2 1\n255\n\x01\x02\x03\xfe\xff\x0a";
-    assert_eq!(rt;
-        picture_bytes(rt.alloc(), &picture)?.as_slice(),
-        text.as_slice()
-    );
+    Ok(picture_bytes(alloc, &picture)?)
+}
+
+#[test]
+fn bytes(rt: HostRuntime) -> Result<(), Fail> {
+    let dark = column(rt.alloc())?;
+    assert!(rt; dark.as_slice() == COLUMN);
+    let both = row(rt.alloc())?;
+    assert!(rt; both.as_slice() == ROW);
     Ok(())
+}
+
+/// Writes the column, four bytes a call, of which this one fails; and compares whether it is written whole and what is held.
+fn writes(
+    rt: &impl Abort,
+    alloc: Global,
+    call: u64,
+    is_whole: bool,
+    held: &[u8],
+) -> Result<(), Fail> {
+    let plane = Plane::new(alloc, 1, 2, DARK)?;
+    let mut fails = CallList::new(alloc);
+    fails.push(call)?;
+    let mut sink = MemorySink::new(alloc, 17, 4, fails)?;
+    assert!(rt; write_ppm(&plane, &mut sink).is_ok() == is_whole);
+    assert!(rt; sink.bytes() == held);
+    Ok(())
+}
+
+#[test]
+fn written(rt: HostRuntime) -> Result<(), Fail> {
+    writes(&rt, rt.alloc(), 2, false, b"P6\n1")?;
+    // (there are seven calls: three of the header, and two of each row)
+    writes(&rt, rt.alloc(), 8, true, COLUMN)
 }

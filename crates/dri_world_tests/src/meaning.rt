@@ -1,4 +1,4 @@
-//! Each law once, and two scripts drawn alone.
+//! Each law once, and a script drawn alone.
 
 ghost use Rattle.std.specs.Prelude.{◌≡◌, length};
 ghost use Rattle.dri_base.specs.Ranges.{InRange};
@@ -6,12 +6,15 @@ ghost use Rattle.dri_meaning.specs.Scripts.{ScriptInRange};
 
 use dri_base::{ClientScript, Rgb, Scene};
 use dri_meaning::{
-    SoloFault, a_scissor, a_triangle, bounded, central, changed_beside, changes_one_by_one,
-    columns, confined, core, counted, covered_and_uncovered, covered_in_part, covered_whole, death,
+    SoloFault, a_full_region, a_region_taken_over, a_region_unshared, a_scissor, a_second_region,
+    a_shared_region, a_triangle, bounded, central, changed_beside, changes_one_by_one, columns,
+    confined, core, counted, covered_and_uncovered, covered_in_part, covered_whole, death,
     death_of_two_windows, decided, depths, each_depth, each_setting, frames, judged, killed_before,
-    killed_in_a_hold, marked, no_hold_runs, no_holds, own, own_card, rounds_end, shown_again,
-    solo_left, solo_picture, solo_pixel, stamped, stopped, turned_off, turns, two_blends,
-    two_holds, two_places, two_textures, why_refused,
+    killed_in_a_hold, marked, moved_after_its_swap, moved_and_then_resized, moved_as_it_shows,
+    moved_by_a_pixel, moved_by_its_width, moved_nowhere_at_all, moved_partly_off,
+    moved_under_another, moved_with_its_depth, no_hold_runs, no_holds, own, own_card, rounds_end,
+    shown_again, solo_left, solo_picture, solo_pixel, stamped, stopped, turned_off, turns,
+    two_blends, two_holds, two_places, two_textures, why_refused,
 };
 use dri_scene::read_scene;
 use std::test::Fail;
@@ -42,6 +45,15 @@ fn worked_scenes() {
     death();
     covered_and_uncovered();
     changed_beside();
+    moved_by_its_width();
+    moved_by_a_pixel();
+    moved_partly_off();
+    moved_nowhere_at_all();
+    moved_as_it_shows();
+    moved_under_another();
+    moved_and_then_resized();
+    moved_after_its_swap();
+    moved_with_its_depth();
     marked();
     killed_in_a_hold();
     two_textures();
@@ -62,27 +74,20 @@ fn worked_scenes() {
     each_setting();
     turned_off();
     each_depth();
+    a_shared_region();
+    a_region_unshared();
+    a_full_region();
+    a_second_region();
+    a_region_taken_over();
 }
-
-const BLACK: Rgb = Rgb { r: 0, g: 0, b: 0 };
 
 const RED: Rgb = Rgb { r: 255, g: 0, b: 0 };
 
 const GREEN: Rgb = Rgb { r: 0, g: 255, b: 0 };
 
-const LIGHT_GREY: Rgb = Rgb {
-    r: 192,
-    g: 192,
-    b: 192,
-};
-
 /// A clear, and behind it a triangle that the scissor cuts to one pixel; and a frame without a clear.
 const ONE_SCISSOR: &str =
     "dri 1\nscreen 8 1 000000\nheap 1 256\nwindow 1 -5 0 10 1 000000 1 up\nclient 1 1\nclear ff0000 65535\nset scissor 5 0 6 1\ntriangle 0 0 0 00ff00ff 0 0 320 0 0 00ff00ff 0 0 0 320 0 00ff00ff 0 0\nswap\nswap\nend\ndone\n";
-
-/// Half grey is added to black, and half of white blended over it.
-const ADD_AND_ALPHA: &str =
-    "dri 1\nscreen 8 1 000000\nheap 1 256\nwindow 1 -5 0 10 1 000000 1 up\nclient 1 1\nclear 000000 65535\nset blend add\ntriangle 0 0 0 808080ff 0 0 320 0 0 808080ff 0 0 0 320 0 808080ff 0 0\nset blend alpha\ntriangle 0 0 0 ffffff80 0 0 320 0 0 ffffff80 0 0 0 320 0 ffffff80 0 0\nswap\nend\ndone\n";
 
 /// The only client.
 fn script(scene: &Scene) -> &ClientScript
@@ -111,22 +116,7 @@ fn alone_in_a_scissor(rt: HostRuntime) -> Result<(), Fail> {
     ] {
         assert!(rt; solo_pixel(script, frame, x, y) == colour);
     }
-    assert_eq!(rt;
-        solo_picture(rt.alloc(), script, 2, 10, 1).err(),
-        Some(SoloFault::NoFrame)
-    );
-    Ok(())
-}
-
-#[test]
-fn alone_with_two_blends(rt: HostRuntime) -> Result<(), Fail> {
-    let scene = read_scene(rt.alloc(), ADD_AND_ALPHA.as_bytes())?;
-    assert!(rt; scene.in_range());
-    assert!(rt; scene.clients.len() == 1);
-    let script = script(&scene);
-    let picture = solo_picture(rt.alloc(), script, 1, 3, 1)?;
-    assert_eq!(rt; (picture.width, picture.height), (3, 1));
-    assert!(rt; picture.pixels.as_slice() == [LIGHT_GREY, LIGHT_GREY, LIGHT_GREY].as_slice());
-    assert!(rt; solo_pixel(script, 1, 20, 0) == Some(BLACK));
+    let no_frame = solo_picture(rt.alloc(), script, 2, 10, 1).err();
+    assert!(rt; no_frame == Some(SoloFault::NoFrame));
     Ok(())
 }

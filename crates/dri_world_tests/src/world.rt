@@ -80,6 +80,15 @@ const YIELDS_JOURNAL: &str =
 const EACH_ENTRY_JOURNAL: &str =
     "journal 1\nchange 1\nkernel 1 1\nstale 1\nleave 1\ninfo 1\nkernel 1 1\nrun 1 1\nrun 1 2\nrun 1 3\nplace 1 1 0 1\nemit 1 127\nrun 1 4\nrun 1 5\nleave 1\nlight 1\nrun 1 6\nleave 1\nlight 1\ngone 1\ndone\n";
 
+/// A frame in two holds, up to the server's change of the window, which comes between them.
+const TWO_HOLDS: &str =
+    "dri 1\nscreen 4 1 000000\nheap 1 256\nwindow 1 0 0 2 1 404040 1 up\nclient 1 1\nclear ff0000 65535\nyield\nswap\nend\nserver\n";
+
+const BETWEEN: &str = "end\nturns\n1\n1\n1\n1\n1\n1\n1\n1\ns\nend\ndone\n";
+
+const TWO_HOLDS_JOURNAL: &str =
+    "journal 1\nkernel 1 1\nstale 1\nleave 1\ninfo 1\nkernel 1 1\nrun 1 1\nrun 1 2\nleave 1\nchange 1\nkernel 1 1\nstale 1\nleave 1\ninfo 1\nkernel 1 1\nrun 1 3\nleave 1\ndone\n";
+
 /// A scene's text in parts; the word after its schedule and after its rounds, its journal's text, and pixels of the screen
 /// by their places.
 struct Case {
@@ -89,7 +98,7 @@ struct Case {
     pixels: &'static [(usize, Rgb)],
 }
 
-const CASES: [Case; 6] = [
+const CASES: [Case; 9] = [
     Case {
         scene: TRIANGLE,
         words: [1, 2],
@@ -125,6 +134,24 @@ const CASES: [Case; 6] = [
         words: [1, 0],
         journal: EACH_ENTRY_JOURNAL,
         pixels: &[(1, BLACK)],
+    },
+    Case {
+        scene: &[TWO_HOLDS, "move 1 2 0\n", BETWEEN],
+        words: [1, 2],
+        journal: TWO_HOLDS_JOURNAL,
+        pixels: &[(0, BLACK), (1, BLACK), (2, RED), (3, RED)],
+    },
+    Case {
+        scene: &[TWO_HOLDS, "move 1 1 0\n", BETWEEN],
+        words: [1, 2],
+        journal: TWO_HOLDS_JOURNAL,
+        pixels: &[(0, BLACK), (1, RED), (2, RED), (3, BLACK)],
+    },
+    Case {
+        scene: &[TWO_HOLDS, "move 1 3 0\n", BETWEEN],
+        words: [1, 2],
+        journal: TWO_HOLDS_JOURNAL,
+        pixels: &[(0, BLACK), (1, BLACK), (2, BLACK), (3, RED)],
     },
 ];
 
