@@ -142,7 +142,7 @@ class Hold:
 
 @dataclass(frozen=True)
 class Loss:
-    """The entry that gave a window a new stamp, and the stamp."""
+    """The entry that gave a window a new stamp and didn't move it whole, and the stamp."""
 
     entry: int
     stamp: int
@@ -223,7 +223,7 @@ def course_of(scene: Scene, entries: Iterable[Entry]) -> Course:
         follow_hold(course, number, entry)
         if given:
             course.stamps[number] = given
-            lose(course, number, given)
+            lose(course, number, given, standing.stack.moved_whole)
         if entry.kind == "run":
             follow_frame(course, standing, number, entry)
     course.is_whole = standing.is_whole()
@@ -241,11 +241,13 @@ def follow_hold(course: Course, number: int, entry: Entry) -> None:
         course.holds.append(Hold(entry.actor, number, number, is_ended))
 
 
-def lose(course: Course, number: int, given: dict[int, int]) -> None:
-    """Notes which begun frames lose their window's stamp, each to the first entry that took it."""
+def lose(course: Course, number: int, given: dict[int, int], moved_whole: Optional[int]) -> None:
+    """Notes which begun frames lose their window's stamp otherwise than by a whole move, each to the first entry that took
+    it."""
     for client, drawing in course.drawings.items():
-        stamp = given.get(course.window_of(client))
-        if stamp and drawing.clear and not drawing.loss:
+        window = course.window_of(client)
+        stamp = given.get(window)
+        if stamp and window != moved_whole and drawing.clear and not drawing.loss:
             drawing.loss = Loss(number, stamp)
 
 

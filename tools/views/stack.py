@@ -1,4 +1,4 @@
-"""The window stack: what is topmost where, and the stamps that changes give."""
+"""The window stack: what is topmost where, the stamps that changes give, and which window a change moved whole."""
 
 from __future__ import annotations
 
@@ -69,14 +69,25 @@ def touched(before: Tops, after: Tops, where: list[Rect]) -> set[int]:
     return numbers - {NOBODY}
 
 
+def is_moved_whole(before: Tops, after: Tops, old: Window, new: Window) -> bool:
+    """A window's new clips are its old ones, moved as its corner is."""
+    for row in range(new.height):
+        was = before.row(old.y + row, old.x, old.x + old.width)
+        now = after.row(new.y + row, new.x, new.x + new.width)
+        if [it == old.number for it in was] != [it == new.number for it in now]:
+            return False
+    return True
+
+
 class Stack:
-    """The windows from top to bottom with their stamps."""
+    """The windows from top to bottom with their stamps, and the one that the last change moved whole, if it did."""
 
     def __init__(self, scene: Scene):
         self.screen = Rect(0, 0, scene.screen.width, scene.screen.height)
         self.windows = list(scene.windows)
         self.stamps = {it.number: FIRST_STAMP for it in scene.windows}
         self.last_stamp = FIRST_STAMP
+        self.moved_whole: Optional[int] = None
 
     def window(self, number: int) -> Window:
         return next(it for it in self.windows if it.number == number)
@@ -88,16 +99,20 @@ class Stack:
         """Makes a change, and returns the stamps that it gives, by the windows' numbers."""
         old = self.window(change.window)
         new = changed(old, change)
+        self.moved_whole = None
         if new is None:
             return {}
         windows = [new if it is old else it for it in self.windows]
         if change.kind in ("raise", "lower"):
             windows.remove(new)
             windows.insert(0 if change.kind == "raise" else len(windows), new)
+        if change.kind == "move" and is_moved_whole(self.tops(), Tops(windows, self.screen), old, new):
+            self.moved_whole = new.number
         return self.restacked(windows, [rect_of(old), rect_of(new)])
 
     def bury(self, owner: int) -> dict[int, int]:
         """Unmaps a dead client's windows, and returns the stamps that this gives."""
+        self.moved_whole = None
         own = [it for it in self.windows if it.owner == owner]
         windows = [replace(it, is_mapped=False) if it in own else it for it in self.windows]
         return self.restacked(windows, [rect_of(it) for it in own])
