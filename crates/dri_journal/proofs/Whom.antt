@@ -99,3 +99,7 @@ no_some (Some x) e some = absurd (cc)
 pub change_or_clients : (e : Entry) → ((i : ℕ) → e ≡ Entry_is.Change i → ⊥) → is_clients e ≡ true
 change_or_clients (Entry_is.Change i) ne = absurd (ne i refl)
 change_or_clients _ ne = refl
+
+-- the window that a found script draws on is on the stack
+pub draws_on : (s : Scene) (j : List Entry) (c i : ℕ) → InRange s → slice_get s.clients i ≡ Some (script_of s c) → Contains (window_numbers (after s j).stack) (window_of s c)
+draws_on s j c i good there = has_contains (after s j).stack (window_of s c) (has_after s j (window_of s c) (has_owned s.windows (window_of s c) (script_of s c).number (client_in_range s i (script_of s c) good there).owns))

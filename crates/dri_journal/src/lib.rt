@@ -9,6 +9,7 @@
 mod acting;
 mod answer;
 mod checking;
+mod current;
 mod deed;
 mod entry;
 mod fault;
@@ -30,5 +31,5 @@ pub use fault::JournalFault;
 pub use print::print_journal;
 pub use read::read_journal;
 pub use refusal::{Refusal, StepFault};
-pub use replay::Replay;
+pub use replay::{Replay, client_of};
 pub use written::{plain_runs_stay, runs_read_back};

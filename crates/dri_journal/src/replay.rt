@@ -5,7 +5,8 @@
 //! A step looks the entry's client up, and works on what is kept now, so its cost doesn't grow with the entries taken.
 
 ghost use Rattle.std.specs.Prelude.{◌≡◌, ◌≤◌, ◌<◌, ◌&&◌, [], length, IfErr, IfOk, OnOk, OnErr, Some, true, slice_get, Contains};
-ghost use Rattle.dri_base.specs.Ranges.{InRange, client_numbers};
+ghost use Rattle.dri_base.specs.Ranges.{InRange, client_numbers, window_numbers};
+ghost use Rattle.dri_client.specs.Kept.{IsKept};
 ghost use Rattle.dri_client.specs.Parts.{Agrees};
 ghost use Rattle.dri_clips.specs.SceneBoards.{IsBoardOf};
 ghost use Rattle.dri_core.specs.Decide.{is_legal_entry};
@@ -20,6 +21,7 @@ ghost use Rattle.dri_journal.specs.Remains.{AreOpening};
 ghost use Rattle.std.specs.List.{list_all};
 ghost use Rattle.dri_journal.specs.Replays.{MayTake, Steps, Took, allows, world_of};
 ghost use Rattle.dri_meaning.specs.Reports.{is_whole, tally};
+ghost use Rattle.dri_meaning.specs.Scripts.{ScriptInRange};
 
 use crate::acting::{act, use_regions};
 use crate::deed::{Deed, deed_by, deed_told, whole_window, windows_of};
@@ -120,11 +122,23 @@ impl<'a> Replay<'a> {
         &self.board
     }
 
+    /// The script of a client of the scene. The window that it draws on is on the stack that the entries leave.
+    pub fn script(&self, client: u32) -> &ClientScript
+        requires { Contains (client_numbers self.now.scene.clients) client }
+        ensures same { result.now ≡ script_of self.now.scene client }
+        ensures range { ScriptInRange result.now }
+        ensures window { Contains (window_numbers (world_of self.now).stack) result.now.window }
+    {
+        let at = place_of(self.scene.clients.as_slice(), client).unwrap();
+        self.scene.clients.get(at)
+    }
+
     /// What a client of the scene keeps of the others after the entries. Its copies of its clips and its corner are no part
     /// of that.
     pub fn part(&self, client: u32) -> &ClientPart
         requires { Contains (client_numbers self.now.scene.clients) client }
-        ensures { Agrees result.now ((world_of self.now).client client) }
+        ensures agrees { Agrees result.now ((world_of self.now).client client) }
+        ensures kept { IsKept (script_of self.now.scene client) self.now.scene.regions result.now }
     {
         let at = place_of(self.scene.clients.as_slice(), client).unwrap();
         &self.parts[at]
@@ -305,8 +319,8 @@ fn are_both(first: bool, second: bool) -> bool
     first && second
 }
 
-// Whose entry it is; the server is 0.
-fn client_of(entry: &Entry) -> u32
+/// Whose entry it is; the server is 0.
+pub fn client_of(entry: &Entry) -> u32
     ensures { result ≡ client_of entry.now }
 {
     match *entry {

@@ -27,4 +27,4 @@ returns c =
     let i = c.self.inside in let s = i.scene.now in let j = i.entries.items in let n = c.args.client in let at = c.unwrap-at.result in
     let there = found s c.as_slice.result.now c.place_of.result at n n c.unwrap-at.ensures c.as_slice.ensures refl c.place_of.ensures.script in
     let own = part_found s (after s j) n at i.parts.items c.index.result.now c.self.invariant.clients there c.index.ensures in
-    rw (← c.self.view_is) own.0
+    rw (← c.self.view_is) (record { agrees = own.0; kept = own.1 })
