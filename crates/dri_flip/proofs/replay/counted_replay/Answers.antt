@@ -1,0 +1,21 @@
+-- One entry more, and all.
+use Rattle.std.proofs.Common.{arith}
+use Rattle.dri_flip.proofs.Followed.{all_shown, begun, few_taken, first_refused, one_taken}
+use Rattle.dri_flip.proofs.replay.counted_replay.Goals as goal
+
+pub loop-taken-init : goal.loop-taken-init
+loop-taken-init g c = let b = begun c.args.scene.now c.args.entries.now c.in_ok-replay.replay c.in_ok-card.card c.in_ok-replay.ensures c.in_ok-card.ensures.card c.in_ok-card.ensures.owes in record { are = b.0; follows = b.1 }
+
+pub follow-requires-clause-few : goal.follow-requires-clause-few
+follow-requires-clause-few g c = few_taken c.args.scene.now c.args.entries.now c.loop-taken.taken c.loop-taken.replay c.loop-taken.invariant.are c.loop-taken-test.true c.requires.few
+
+pub loop-taken-preserved : goal.loop-taken-preserved
+loop-taken-preserved g c =
+    let got = c.in-Ok.ensures in
+    record { are = one_taken c.args.scene.now c.args.entries.now c.loop-taken.taken c.loop-taken.replay c.follow.new.replay _ c.loop-taken-test.true c.loop-taken.invariant.are got.0 got.1; follows = got.2 }
+
+pub returns-in-Err-Refused : goal.returns-in-Err-Refused
+returns-in-Err-Refused g c = first_refused c.args.scene.now c.args.entries.now c.loop-taken.taken c.loop-taken.replay _ c.loop-taken-test.true c.loop-taken.invariant.are (rw c.in-Err-Refused.field-0-is at c.in-Err-Refused.ensures)
+
+pub returns : goal.returns
+returns g c = all_shown c.args.scene.now c.args.entries.now c.loop-taken.taken c.loop-taken.replay c.in_ok-shown.shown (omega arith) c.loop-taken.invariant.are c.in_ok-shown.ensures

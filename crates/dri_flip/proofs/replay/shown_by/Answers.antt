@@ -1,0 +1,12 @@
+-- What is shown is the card's front.
+use Rattle.std.proofs.Common.{◌∙◌, ap, refl}
+use Rattle.dri_base.specs.declared.colour.Rgb.{Rgb}
+use Rattle.dri_plane.specs.Grids.{Grid}
+use Rattle.dri_flip.proofs.Followed.{shown_is}
+use Rattle.dri_flip.proofs.replay.shown_by.Goals as goal
+
+pub returns : goal.returns
+returns c =
+    shown_is c.args.replay.now c.args.card.now _ c.requires c.entries.ensures.run
+    (c.width.ensures.value ∙ ap (λ (f : Grid Rgb). f.width) c.front-front.ensures) (c.height.ensures.value ∙ ap (λ (f : Grid Rgb). f.height) c.front-front.ensures)
+    (c.in_ok-pixels.ensures ∙ c.pixels.ensures.value ∙ ap (λ (f : Grid Rgb). f.pixels) c.front-front.ensures) refl refl

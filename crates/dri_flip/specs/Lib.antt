@@ -1,0 +1,9 @@
+pub mod Places
+pub mod Meanings
+pub mod Calls
+pub mod Invariants
+pub mod Scissors
+pub mod Owings
+pub mod Follows
+pub mod Replays
+pub mod Examples
