@@ -1,5 +1,5 @@
 -- What a frame drawn alone, or why it isn't there, says of the bytes.
-use Rattle.std.proofs.Common.{◌≡◌, ℕ, zero, suc, ◌+◌, ◌≤◌, ◌⊎◌, Bool, true, false, List, [], ◌∷◌, length, Option, Result, Ok, Err, refl, sym, ap, ◌∙◌, subst, arith, inl, inr}
+use Rattle.std.proofs.Common.{◌≡◌, ℕ, zero, suc, ◌+◌, ◌≤◌, Bool, true, false, List, [], ◌∷◌, length, Option, Result, Ok, Err, refl, sym, ap, ◌∙◌, subst, arith, inl, inr}
 use Rattle.std.specs.Prelude.{if◌then◌else◌, nat_lt, IfErr}
 use Rattle.dri_base.specs.Ranges.{InRange}
 use Rattle.dri_base.specs.declared.scene.Scene.{Scene}
@@ -10,7 +10,7 @@ use Rattle.dri_words.specs.Lines.{◌>>=◌, at_line, ends, is_passed_over}
 use Rattle.dri_words.specs.Parts.{is_nil, parts_at}
 use Rattle.dri_words.specs.declared.reason.Reason.{Reason}
 use Rattle.dri_run.specs.FrameAlone.{DrawsAlone, HasNoImage, IsImageDecided, ReadsImage, answer_to_frame, frame_answer_to, frame_answer_to_text, has_frame}
-use Rattle.dri_run.specs.Outcome.{HasNoScene, IsDecided, IsTextOf, answer_to, answer_to_text, most_text}
+use Rattle.dri_run.specs.Outcome.{HasNoScene, IsDecided, IsTextOf, answer_to_text, most_text}
 use Rattle.dri_run.specs.declared.status.Status.{Status}
 use Rattle.dri_run.specs.declared.status.Status.TheVariants as answers
 

@@ -1,8 +1,8 @@
 -- A run without kills has at most as many events as there was to do at the start, and so its journal isn't long.
-use Rattle.std.proofs.Common.{◌≡◌, ◌<◌, ◌≤◌, ◌+◌, ◌*◌, ◌-◌, ℕ, List, [], ◌∷◌, ◌++◌, length, Bool, true, false, Option, Some, None, refl, sym, ap, ◌∙◌, subst, arith}
+use Rattle.std.proofs.Common.{◌≡◌, ◌<◌, ◌≤◌, ◌+◌, ◌*◌, ◌-◌, ℕ, List, [], ◌∷◌, ◌++◌, length, Bool, true, false, Option, Some, None, refl, ap, ◌∙◌, arith}
 use Rattle.std.specs.Prelude.{◌&&◌, nat_lt, not}
 use Rattle.std.specs.List.{sum_by}
-use Rattle.std.proofs.Math.Nat.{mul-le-mul_left, mul_comm}
+use Rattle.std.proofs.Math.Nat.{mul-le-mul_left}
 use Rattle.std.proofs.lemmas.Bool.{true≢false}
 use Rattle.std.proofs.lemmas.List.{length-map}
 use Rattle.std.proofs.lemmas.List.Sums.{sum_by-cons}
@@ -21,7 +21,7 @@ use Rattle.dri_core.specs.EventTable.{after_event}
 use Rattle.dri_core.specs.Measures.{client_left, clients_left, has_to_wait, is_stale, one_if, part_left, phase_left, server_left, work_left}
 use Rattle.dri_core.specs.Phases.{Phase, Out, Old, In, Over, Ask, Asking, Ended, Dead, is_done}
 use Rattle.dri_core.specs.Privates.{is_ready}
-use Rattle.dri_core.specs.Turns.{IsTurns, core_after, one_event, played, rounds, turn, turns_and_rounds}
+use Rattle.dri_core.specs.Turns.{IsTurns, core_after, one_event, played, rounds, turn}
 use Rattle.dri_model.specs.Groups.{is_empty}
 use Rattle.dri_core.proofs.Bounds.{command_sum, few_clients}
 use Rattle.dri_core.proofs.Going.{Going, going_on, going_start, turn_less}

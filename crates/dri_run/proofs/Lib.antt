@@ -4,10 +4,12 @@ pub mod Kept
 pub mod Sayings
 -- Clients in threads
 pub mod Threading
--- The word check
+-- The words that read a recording
 mod Behind
 mod Recorded
-mod Checking
+mod Replaying
+mod Showing
+mod Flipping
 -- The word make
 mod FewEntries
 mod Making

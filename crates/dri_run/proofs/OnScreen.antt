@@ -1,6 +1,5 @@
 -- Where a frame stood and nothing followed, the screen shows it as it is drawn alone.
-use Rattle.std.proofs.Common.{◌≡◌, ◌<◌, ◌+◌, ◌*◌, ℕ, pos, List, [], ◌∷◌, ◌++◌, map, true, Option, Some, None, refl, sym, ap, ◌∙◌, subst, arith}
-use Rattle.std.specs.Prelude.{slice_get}
+use Rattle.std.proofs.Common.{◌≡◌, ◌<◌, ◌+◌, ◌*◌, ℕ, pos, List, [], ◌∷◌, ◌++◌, Option, Some, None, sym, ap, ◌∙◌, subst, arith}
 use Rattle.std.specs.Option.{option_map}
 use Rattle.std.proofs.lemmas.Bool.Decides.{nat_tests}
 use Rattle.std.proofs.lemmas.Option.{same_Some, slice_get-map}
@@ -8,14 +7,13 @@ use Rattle.dri_base.specs.declared.colour.Rgb.{Rgb}
 use Rattle.dri_base.specs.declared.journal.Event.{Event}
 use Rattle.dri_base.specs.declared.journal.Event.TheVariants.{Run}
 use Rattle.dri_base.specs.declared.scene.Scene.{Scene}
-use Rattle.dri_base.specs.Planes.{at, plane}
+use Rattle.dri_base.specs.Planes.{at}
 use Rattle.dri_base.specs.Scenes.{script_of}
 use Rattle.dri_base.proofs.PlaneLists.{plane_at}
 use Rattle.dri_core.specs.CoreRuns.{SoloLeftRun, after_events, world_of}
 use Rattle.dri_core.specs.Cores.{Core, opening_core}
-use Rattle.dri_core.specs.Frames.{Shows, across, down}
+use Rattle.dri_core.specs.Frames.{Shows, across}
 use Rattle.dri_core.specs.Solo.{solo_frame}
-use Rattle.dri_core.specs.Worlds.{clips_in}
 use Rattle.dri_core.proofs.Rounds.{after_append}
 use Rattle.dri_core.proofs.RoundsEnd.{append_nothing}
 use Rattle.dri_run.specs.FrameAlone.{IsShot}

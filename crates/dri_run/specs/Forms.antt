@@ -5,12 +5,19 @@ use Rattle.std.specs.String.{string_bytes}
 use Rattle.std.specs.declared.string.String.{String}
 use Rattle.std.specs.declared.alloc.Global.{Global}
 use Rattle.dri_base.specs.Limits.{most_commands}
+use Rattle.dri_base.specs.Ranges.{IsWithin}
 use Rattle.dri_words.specs.Parts.{parts_at}
 use Rattle.dri_words.specs.Ranges.{within}
 use Rattle.dri_words.specs.Words.{◌>>=◌, alone, number_at}
 use Rattle.dri_run.specs.declared.form.Form.{Form}
-use Rattle.dri_run.specs.declared.form.Form.TheVariants.{Scheduled, Check, Solo, Make}
+use Rattle.dri_run.specs.declared.form.Form.TheVariants.{Scheduled, Replayed, Solo, Make}
+use Rattle.dri_run.specs.declared.form.Replaying.TheVariants.{Check, Flip}
 use Rattle.dri_run.specs.declared.form.Shown.TheVariants.{Turns, Sarea}
+
+-- a scene is made of 1 to 32 clients
+abbrev pub IsFormRanged : Form → Type 0
+IsFormRanged (Make n) = IsWithin 1 32 n
+IsFormRanged _ = Unit {0}
 
 -- the number from low to high that a word spells, as a text has it: without leading zeros
 abbrev pub number_in : ℕ → ℕ → List ℕ → Option ℕ
@@ -24,12 +31,19 @@ abbrev pub form_of_word : List ℕ → Option Form
 form_of_word word =
     if bytes_eq word (codes "turns") then Some (Scheduled Turns)
     else if bytes_eq word (codes "sarea") then Some (Scheduled Sarea)
-    else if bytes_eq word (codes "check") then Some Check
+    else if bytes_eq word (codes "check") then Some (Replayed Check)
+    else if bytes_eq word (codes "flip") then Some (Replayed Flip)
     else None
 
 -- a scene of so many clients is made
 abbrev pub make_form : List ℕ → Option Form
 make_form count = number_in 1 32 count >>= λ n. Some (Make n)
+
+-- the form of a word with a number behind it
+abbrev pub counted_form : List ℕ → List ℕ → Option Form
+counted_form word count =
+    if bytes_eq word (codes "make") then make_form count
+    else None
 
 -- a client and its frame; there are no more frames than commands
 abbrev pub solo_form : List ℕ → List ℕ → Option Form
@@ -38,7 +52,7 @@ solo_form client frame = number_in 1 32 client >>= λ c. number_in 1 most_comman
 -- the form of these words: one word alone, or one with its numbers behind it
 abbrev pub form_of_words : List (List ℕ) → Option Form
 form_of_words (word ∷ []) = form_of_word word
-form_of_words (word ∷ count ∷ []) = if bytes_eq word (codes "make") then make_form count else None
+form_of_words (word ∷ count ∷ []) = counted_form word count
 form_of_words (word ∷ client ∷ frame ∷ []) = if bytes_eq word (codes "solo") then solo_form client frame else None
 form_of_words _ = None
 

@@ -1,5 +1,5 @@
 -- What drawing a client's frame alone gives.
-use Rattle.std.specs.Prelude.{◌≡◌, ℕ, zero, ◌<◌, ◌≤◌, ◌⊎◌, pos, List, [], length, map, Bool, true, false, is_some, nat_lt, if◌then◌else◌, Some, Result, Ok, Err}
+use Rattle.std.specs.Prelude.{◌≡◌, ℕ, zero, ◌⊎◌, pos, List, [], length, map, Bool, true, false, is_some, nat_lt, if◌then◌else◌, Some, Result, Ok, Err}
 use Rattle.std.specs.declared.option.Option.{Option}
 use Rattle.dri_base.specs.declared.colour.Rgb.{Rgb}
 use Rattle.dri_base.specs.declared.scene.Scene.{Scene}
@@ -11,7 +11,6 @@ use Rattle.dri_core.specs.Solo.{frame, solo_frame}
 use Rattle.dri_model.specs.Stacks.{window_in}
 use Rattle.dri_ppm.specs.Ppm.{ppm}
 use Rattle.dri_scene.specs.Readings.{Refusal, scene_of}
-use Rattle.dri_words.specs.declared.reason.Reason.{Reason}
 use Rattle.dri_words.specs.declared.reason.Reason.TheVariants as reasons
 use Rattle.dri_run.specs.Outcome.{HasNoScene, IsRead, IsTextOf, most_text}
 use Rattle.dri_run.specs.declared.status.Status.{Status}

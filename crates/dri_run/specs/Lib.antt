@@ -4,6 +4,8 @@ pub mod Gains
 pub mod Outcome
 pub mod Recordings
 pub mod CheckedRun
+pub mod FlippedRun
+pub mod Replays
 pub mod ScheduledRun
 pub mod ThreadedRun
 pub mod MadeScene

@@ -1,11 +1,14 @@
 -- A recording: the text of a scene and, behind its done line, the text of a journal. Bytes and lines count over both.
 use Rattle.std.specs.Prelude.{◌≡◌, ℕ, ◌+◌, ◌<◌, ◌≤◌, ◌⊎◌, List, drop, length, Result, Ok, Err}
 use Rattle.std.specs.declared.option.Option.{Option}
+use Rattle.dri_base.specs.Planes.{plane}
 use Rattle.dri_base.specs.Ranges.{InRange}
 use Rattle.dri_base.specs.declared.scene.Scene.{Scene}
+use Rattle.dri_core.specs.Runs.{after}
 use Rattle.dri_journal.specs.Readings.{journal_of_text}
 use Rattle.dri_journal.specs.declared.fault.JournalFault.{JournalFault}
 use Rattle.dri_journal.specs.declared.fault.JournalFault.TheVariants as faults
+use Rattle.dri_ppm.specs.Ppm.{ppm}
 use Rattle.dri_scene.specs.Readings.{Refusal, part_of}
 use Rattle.dri_scene.specs.declared.part.Part.{Part}
 use Rattle.dri_words.specs.Lines.{◌>>=◌}
@@ -79,3 +82,7 @@ IsRefusalOf _ bytes = ⊥
 abbrev pub IsDecided : Result Recording Status → List ℕ → Type 0
 IsDecided (Ok recording) bytes = (length bytes ≤ most) × (recording_of bytes ≡ Ok recording)
 IsDecided (Err status) bytes = IsRefusalOf status bytes ⊎ (status ≡ answers.OutOfMemory)
+
+-- what the screen shows after a recording, in the P6 form
+abbrev pub screen_after : Recording → List ℕ
+screen_after r = ppm r.scene.width r.scene.height (plane r.scene.width r.scene.height (after r.scene r.journal).front)

@@ -1,9 +1,8 @@
 //! The words of the command line.
 
-ghost use Rattle.std.specs.Prelude.{◌≡◌, ℕ, IfSome, Some};
+ghost use Rattle.std.specs.Prelude.{◌≡◌, IfSome};
 ghost use Rattle.dri_base.specs.Ranges.{IsWithin};
-ghost use Rattle.dri_run.specs.Forms.{form_of, form_of_word, is_run, make_form, number_in, solo_form};
-ghost use Rattle.dri_run.specs.declared.form.Form.TheVariants.{Make};
+ghost use Rattle.dri_run.specs.Forms.{IsFormRanged, counted_form, form_of, form_of_word, is_run, make_form, number_in, solo_form};
 
 use dri_words::{Parts, alone, number, within};
 
@@ -22,13 +21,22 @@ pub enum Shown {
     Sarea,
 }
 
+/// What is done with a recording: a scene and a journal.
+#[derive(Clone, Copy)]
+pub enum Replaying {
+    /// `check`: it is told whether the journal is a run of the scene.
+    Check,
+    /// `flip`: the journal is drawn by a card that flips.
+    Flip,
+}
+
 /// What the words ask for.
 #[derive(Clone, Copy)]
 pub enum Form {
     /// A scene's run by its schedule.
     Scheduled(Shown),
-    /// `check`: whether a journal is a run of a scene.
-    Check,
+    /// A recording's replay.
+    Replayed(Replaying),
     /// `solo C K`: a client's frame, drawn alone. The client is 1 to 32, the frame 1 to 100,000.
     Solo { client: u32, frame: u32 },
     /// `make N`: a scene for load, of so many clients, 1 to 32.
@@ -47,14 +55,17 @@ fn number_in(low: u32, high: u32, word: &str) -> Option<u32>
 
 /// What one word asks for.
 fn form_of_word(word: &str) -> Option<Form>
-    ensures { result ≡ form_of_word word.now }
+    ensures value { result ≡ form_of_word word.now }
+    ensures bound { IfSome result IsFormRanged }
 {
     if word == "turns" {
         Some(Form::Scheduled(Shown::Turns))
     } else if word == "sarea" {
         Some(Form::Scheduled(Shown::Sarea))
     } else if word == "check" {
-        Some(Form::Check)
+        Some(Form::Replayed(Replaying::Check))
+    } else if word == "flip" {
+        Some(Form::Replayed(Replaying::Flip))
     } else {
         None
     }
@@ -63,15 +74,28 @@ fn form_of_word(word: &str) -> Option<Form>
 /// What the word `make` and a number behind it ask for.
 fn make_form(count: &str) -> Option<Form>
     ensures value { result ≡ make_form count.now }
-    ensures bound { (n : ℕ) → result ≡ Some (Make n) → IsWithin 1 32 n }
+    ensures bound { IfSome result IsFormRanged }
 {
     let clients = number_in(1, MOST_CLIENTS, count)?;
     Some(Form::Make { clients })
 }
 
+/// What a word and a number behind it ask for.
+fn counted_form(word: &str, count: &str) -> Option<Form>
+    ensures value { result ≡ counted_form word.now count.now }
+    ensures bound { IfSome result IsFormRanged }
+{
+    if word == "make" {
+        make_form(count)
+    } else {
+        None
+    }
+}
+
 /// What the word `solo` and two numbers behind it ask for.
 fn solo_form(client: &str, frame: &str) -> Option<Form>
-    ensures { result ≡ solo_form client.now frame.now }
+    ensures value { result ≡ solo_form client.now frame.now }
+    ensures bound { IfSome result IsFormRanged }
 {
     let client = number_in(1, MOST_CLIENTS, client)?;
     let frame = number_in(1, MOST_FRAMES, frame)?;
@@ -81,17 +105,11 @@ fn solo_form(client: &str, frame: &str) -> Option<Form>
 /// What the words ask for, where they are of a form.
 pub fn form_of(words: &[String]) -> Option<Form>
     ensures value { result ≡ form_of words.now }
-    ensures bound { (n : ℕ) → result ≡ Some (Make n) → IsWithin 1 32 n }
+    ensures bound { IfSome result IsFormRanged }
 {
     match words {
         [word] => form_of_word(word.as_str()),
-        [word, count] => {
-            if word.as_str() == "make" {
-                make_form(count.as_str())
-            } else {
-                None
-            }
-        }
+        [word, count] => counted_form(word.as_str(), count.as_str()),
         [word, client, frame] => {
             if word.as_str() == "solo" {
                 solo_form(client.as_str(), frame.as_str())

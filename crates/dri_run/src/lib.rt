@@ -4,12 +4,15 @@
 
 mod alone;
 mod checked;
+mod flipped;
 mod form;
 mod made;
 mod notice;
 mod output;
+mod pictured;
 mod reading;
 mod recording;
+mod replayed;
 mod report;
 mod status;
 mod threaded;

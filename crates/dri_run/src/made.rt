@@ -5,14 +5,14 @@ ghost use Rattle.std.specs.Arc.{arc_value};
 ghost use Rattle.dri_base.specs.Ranges.{InRange, IsWithin};
 ghost use Rattle.dri_io.specs.Causes.{Rose};
 ghost use Rattle.dri_scene.specs.Generator.{generator};
-ghost use Rattle.dri_run.specs.MadeScene.{GivesMade, IsMadeReport, frames_line};
+ghost use Rattle.dri_run.specs.MadeScene.{GivesMade, IsMadeReport};
 ghost use Rattle.dri_run.specs.Outcome.{AreTaken, Runs};
 
 use crate::Status;
 use crate::output::run;
-use crate::report::frames_line;
+use crate::report::{bytes_of, frames_line};
 use crate::writing::{Output, write_output};
-use dri_base::{Bytes, OutOfMemory, Scene};
+use dri_base::{OutOfMemory, Scene};
 use dri_io::Sink;
 use dri_journal::{CheckFault, Report, check};
 use dri_scene::{make_scene, print_scene};
@@ -34,16 +34,6 @@ fn report_of(alloc: Global, scene: &Arc<Scene, Global>, clients: u32) -> Result<
     }
 }
 
-/// The line of the frames that ran and of those that stood.
-fn note_of(alloc: Global, report: &Report) -> Result<Bytes, OutOfMemory>
-    ensures { IfOk result (λ b. b ≡ frames_line report.now) }
-{
-    let line = frames_line(report);
-    let mut note = Vec::new(alloc);
-    note.extend_from_slice(line.as_str().as_bytes())?;
-    Ok(Bytes::from_vec(note))
-}
-
 /// The scene of so many clients, 1 to 32, as a text, and how many frames run in it and stand.
 fn made_output_of(alloc: Global, clients: u32) -> Result<Output, OutOfMemory>
     requires { IsWithin 1 32 clients }
@@ -52,7 +42,7 @@ fn made_output_of(alloc: Global, clients: u32) -> Result<Output, OutOfMemory>
     let scene = Arc::new(alloc, make_scene(alloc, clients)?)?;
     let picture = print_scene(alloc, &scene)?;
     let report = report_of(alloc, &scene, clients)?;
-    let notes = note_of(alloc, &report)?;
+    let notes = bytes_of(alloc, &frames_line(&report))?;
     Ok(Output { picture, notes })
 }
 

@@ -81,7 +81,9 @@ pub fn line_of(status: Status) -> Notice
 {
     match status {
         Status::Done => fixed(""),
-        Status::Usage => fixed("dri: usage: turns | run | solo C K | check | make N | sarea\n"),
+        Status::Usage => fixed(
+            "dri: usage: turns | run | solo C K | check | make N | sarea | flip\n",
+        ),
         Status::Refused { line, reason } => refusal(line, reason),
         Status::TooLong => fixed("dri: too long\n"),
         Status::ReadFault => fixed("dri: read failed\n"),

@@ -1,13 +1,16 @@
-//! The lines of a report: all of it, or the counts of its frames. A line is built in a buffer of fixed size, so it takes no
-//! memory.
+//! The lines that a replay gives: a report, all of it or the counts of its frames, and the counts of a card. A line is built in
+//! a buffer of fixed size, so it takes no memory.
 
-ghost use Rattle.std.specs.Prelude.{◌≡◌, ◌≤◌, length};
+ghost use Rattle.std.specs.Prelude.{◌≡◌, ◌≤◌, IfOk, length};
 ghost use Rattle.dri_run.specs.CheckedRun.{report_line, whole_word};
+ghost use Rattle.dri_run.specs.FlippedRun.{flip_line};
 ghost use Rattle.dri_run.specs.MadeScene.{frames_line};
 
 use crate::notice::push_number;
 use arrayvec::ArrayString;
+use dri_base::{Bytes, OutOfMemory};
 use dri_journal::Report;
+use std::alloc::Global;
 
 /// A line of at most 256 bytes.
 pub type ReportLine = ArrayString<256>;
@@ -48,4 +51,26 @@ pub fn frames_line(report: &Report) -> ReportLine
     push_number(&mut line, report.stood);
     line.push_str("\n");
     line
+}
+
+/// The line of the flips and the copies of a card that flips.
+pub fn flip_line(flips: u32, copies: u32) -> ReportLine
+    ensures { result.bytes ≡ flip_line flips copies }
+{
+    let mut line = ReportLine::new();
+    line.push_str("flips ");
+    push_number(&mut line, flips);
+    line.push_str(" copies ");
+    push_number(&mut line, copies);
+    line.push_str("\n");
+    line
+}
+
+/// The bytes of a line.
+pub fn bytes_of(alloc: Global, line: &ReportLine) -> Result<Bytes, OutOfMemory>
+    ensures { IfOk result (λ b. b ≡ line.now.bytes) }
+{
+    let mut bytes = Vec::new(alloc);
+    bytes.extend_from_slice(line.as_str().as_bytes())?;
+    Ok(Bytes::from_vec(bytes))
 }

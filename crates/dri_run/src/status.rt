@@ -1,6 +1,7 @@
 ghost use Rattle.std.specs.Prelude.{◌≡◌};
 ghost use Rattle.dri_run.specs.Notices.{code_of};
 
+use dri_base::OutOfMemory;
 use dri_words::Reason;
 
 /// How a top call ended.
@@ -39,5 +40,15 @@ impl Status {
             Status::NotARun { .. } => 6,
             Status::OutOfMemory => 7,
         }
+    }
+}
+
+impl From<OutOfMemory> for Status {
+    ghost use Rattle.dri_run.specs.declared.status.Status.TheVariants as answers;
+
+    ghost from_gives = { λ _ status. status ≡ answers.OutOfMemory };
+
+    fn from(_error: OutOfMemory) -> Status {
+        Status::OutOfMemory
     }
 }

@@ -18,11 +18,11 @@ ghost use Rattle.dri_base.specs.Ranges.{InRange};
 
 use crate::Status;
 use crate::alone::obey_solo;
-use crate::checked::obey_check;
 use crate::form::{Form, Shown, form_of};
 use crate::made::obey_make;
 use crate::output::output_of;
 use crate::reading::read;
+use crate::replayed::obey_replay;
 use crate::writing::{tell, write_output};
 use dri_base::Scene;
 use dri_io::{Sink, Source};
@@ -112,7 +112,7 @@ fn answer<S: Source, P: Sink, N: Sink>(
 {
     match form_of(words) {
         Some(Form::Scheduled(shown)) => obey(alloc, shown, input, picture, notes),
-        Some(Form::Check) => obey_check(alloc, input, picture, notes),
+        Some(Form::Replayed(word)) => obey_replay(alloc, word, input, picture, notes),
         Some(Form::Solo { client, frame }) => {
             obey_solo(alloc, client, frame, input, picture, notes)
         }
@@ -124,11 +124,12 @@ fn answer<S: Source, P: Sink, N: Sink>(
 /// Does what the words of the command line say. `turns` reads a scene from `input`, runs it, and writes its screen to
 /// `picture` in the P6 form and its journal to `notes`. `sarea` does the same and writes the image of the shared area to
 /// `picture` in place of the screen, and no journal. `check` reads a scene and behind it a journal, asks whether the
-/// journal is a run of the scene, and writes the line of its report to `picture`, and nothing to `notes`. `solo C K` reads a
-/// scene and writes frame K of client C, drawn alone with the sides that the client's window has in the scene, to
-/// `picture`, and nothing to `notes`. `make N` reads nothing; it writes the text of a scene of N clients to `picture`, and to
-/// `notes` how many frames run in it and how many of them stand. For every status but `Done` one line is written to `notes`
-/// last. It waits for nobody.
+/// journal is a run of the scene, and writes the line of its report to `picture`, and nothing to `notes`. `flip` reads the
+/// same, draws the journal by a card that flips, and writes the screen after it to `picture` and the counts of flips and copies
+/// to `notes`. `solo C K` reads a scene and writes frame K of client C, drawn alone with the sides that the client's window has
+/// in the scene, to `picture`, and nothing to `notes`. `make N` reads nothing; it writes the text of a scene of N clients to
+/// `picture`, and to `notes` how many frames run in it and how many of them stand. For every status but `Done` one line is
+/// written to `notes` last. It waits for nobody.
 pub fn drive<S: Source, P: Sink, N: Sink>(
     alloc: Global,
     words: &[String],
@@ -142,10 +143,11 @@ pub fn drive<S: Source, P: Sink, N: Sink>(
 
     // What was given, and what picture and notes gained. Where the answer is `Done`, the bytes given are the text of one
     // scene; with the run of its schedule and rounds, the picture gained what the screen or the shared area shows after
-    // it, and the notes its journal; and of that run the headline holds. For `check` the bytes given are the text of a
-    // scene and then of a hold-run of it, and the picture gained the line of the run's report. For `solo` they are the text
-    // of a scene that has the frame, and the picture gained the frame as it is drawn alone. For `make` the picture gained
-    // the generator's scene, and the notes how many frames ran in its run and how many of them stood.
+    // it, and the notes its journal; and of that run the headline holds. For `check` and `flip` the bytes given are the text
+    // of a scene and then of a hold-run of it. For `check` the picture gained the line of the run's report; for `flip` it
+    // gained what the screen shows after the run, and the notes the run's flips and copies. For `solo` the bytes are the text
+    // of a scene that has the frame, and the picture gained the frame as it is drawn alone. For `make` the picture gained the
+    // generator's scene, and the notes how many frames ran in its run and how many of them stood.
     ensures answers { (given : List ℕ) × Consumes (S.left input.old) (S.left input.new) given
         × Answers (SaysTo (form_of words.now)) result given (S.left input.new)
         (record { held = P.held picture.old; holds = P.held picture.new; before = P.faults picture.old; now = P.faults picture.new })
@@ -161,8 +163,8 @@ pub fn drive<S: Source, P: Sink, N: Sink>(
         → (Rose (N.faults notes.old) (N.faults notes.new) → ⊥)
         → IsAnswerTo form bytes result ⊎ (result ≡ Status.OutOfMemory) }
 
-    // The same holds where the sinks take, without a fault, whatever a run of the scene gives, the report's line, the frame's
-    // picture, or the made scene and its line.
+    // The same holds where the sinks take, without a fault, whatever a run of the scene gives, a replay of the recording, the
+    // frame's picture, or the made scene and its line.
     ensures taken { (form : Form) (bytes : List ℕ) → form_of words.now ≡ Some form → S.left input.old ≡ Some bytes
         → (S.gives_all input.old ⊎ (Rose (S.faults input.old) (S.faults input.new) → ⊥))
         → TakesAllOf form bytes (P.takes picture.old) (N.takes notes.old)

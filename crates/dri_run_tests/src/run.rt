@@ -70,14 +70,16 @@ pub(crate) const CHECKED: &[&str] = &["check"];
 
 const ALONE: &[&str] = &["solo", "1", "1"];
 
+const FLIPPED: &[&str] = &["flip"];
+
 const UNREAD: &str = "dri: read failed\n";
 
 const UNWRITTEN: &str = "dri: write failed\n";
 
-const USAGE: &str = "dri: usage: turns | run | solo C K | check | make N | sarea\n";
+const USAGE: &str = "dri: usage: turns | run | solo C K | check | make N | sarea | flip\n";
 
 /// Nothing is read for words of no form, so a source that fails isn't noticed.
-const CASES: [Case; 14] = [
+const CASES: [Case; 17] = [
     Case(PLAYED, &[ROOT], [1, 0, 0], 4, b"", UNREAD),
     Case(PLAYED, &[ROOT], [0, 2, 0], 5, b"P6\n1 1\n", UNWRITTEN),
     Case(
@@ -115,6 +117,30 @@ const CASES: [Case; 14] = [
     ),
     Case(
         CHECKED,
+        &[ROOT, "journal 1\nlight 1\ndone\n"],
+        [0, 0, 0],
+        6,
+        b"",
+        "dri: not a run: entry 1\n",
+    ),
+    Case(
+        FLIPPED,
+        &[FRAMES, "done\n", FRAMES_JOURNAL],
+        [0, 0, 0],
+        0,
+        BLUE_PIXELS,
+        "flips 2 copies 0\n",
+    ),
+    Case(
+        FLIPPED,
+        &[FRAMES, "done\n", FRAMES_JOURNAL],
+        [0, 0, 2],
+        5,
+        BLUE_PIXELS,
+        "flips 2dri: write failed\n",
+    ),
+    Case(
+        FLIPPED,
         &[ROOT, "journal 1\nlight 1\ndone\n"],
         [0, 0, 0],
         6,

@@ -1,5 +1,5 @@
 -- The script and the window that were found are the client's.
-use Rattle.std.proofs.Common.{◌≡◌, ◌∙◌, Some, refl, sym}
+use Rattle.std.proofs.Common.{◌≡◌, ◌∙◌, refl, sym}
 use Rattle.std.proofs.lemmas.Option.{same_Some, slice_get_within}
 use Rattle.dri_base.specs.Scenes.{script_of}
 use Rattle.dri_meaning.proofs.ScriptRanges.{script_in_range}
