@@ -20,7 +20,7 @@ use Rattle.dri_core.specs.Runs.{HoldRun, after}
 use Rattle.dri_core.proofs.Kept.{after_kept}
 use Rattle.dri_model.specs.Words.{IsScissorInRange}
 use Rattle.dri_shared.proofs.Clients.{script_meets}
-use Rattle.dri_shared.proofs.Rects.{item_below, item_is}
+use Rattle.dri_draw.proofs.Rects.{item_below, item_is}
 
 -- the scissor is in range, and the bound texture is one of these
 pub record IsBinding (textures : List ℕ) (state : State) : Type 0 where

@@ -1,6 +1,4 @@
--- rectangles of the screen, and drawing and painting in them
-mod Rects
-mod Drawn
+-- painting in rectangles of the screen
 mod Painted
 -- what a journal leaves: windows, clients, places of commands, runs of textures, what scripts bind
 mod Windows

@@ -23,9 +23,10 @@ use Rattle.dri_model.specs.Stacks.{Refusal, carried, carried_from, is_displaced,
 use Rattle.dri_model.proofs.Moves.{carry_is, carry_then_paint}
 use Rattle.dri_plane.specs.Grids.{pixel_count}
 use Rattle.dri_plane.specs.Moves.{StaysInside}
-use Rattle.dri_shared.specs.Drawing.{CanCarry, IsScreen, carried_along, painted_pixels}
+use Rattle.dri_draw.specs.Drawing.{IsScreen}
+use Rattle.dri_shared.specs.Drawing.{CanCarry, carried_along, painted_pixels}
 use Rattle.dri_shared.specs.Holdings.{IsRestackedOn, carried_on}
-use Rattle.dri_shared.proofs.Drawn.{holds_same, shows_same}
+use Rattle.dri_draw.proofs.Drawn.{holds_same, shows_same}
 
 -- one paint more
 pub filled_more : (ps : List Paint) (i : ℕ) (d : Paint) (front : ℕ → ℕ → Rgb) (x y : ℕ) → i < length ps →

@@ -23,10 +23,11 @@ use Rattle.dri_model.specs.Heaps.{Heap, Run as RunOf, Spot}
 use Rattle.dri_model.specs.Words.{card_image, rules_in}
 use Rattle.dri_shared.specs.Commands.{is_setting, is_yield}
 use Rattle.dri_shared.specs.Copies.{IsCopyOf, corner}
-use Rattle.dri_shared.specs.Drawing.{OnlyDrawnOn, cleared_in, drawn_in, in_clips, swapped_in, touched_by_use}
+use Rattle.dri_draw.specs.Drawing.{OnlyDrawnOn, cleared_in, drawn_in, in_clips, swapped_in}
+use Rattle.dri_shared.specs.Drawing.{touched_by_use}
 use Rattle.dri_shared.specs.Holdings.{IsCardOf, IsWorld}
 use Rattle.dri_shared.specs.declared.holdings.Holdings.{Holdings}
-use Rattle.dri_shared.proofs.Drawn.{holds_same, holds_shown, shows_same}
+use Rattle.dri_draw.proofs.Drawn.{holds_same, holds_shown, shows_same}
 use Rattle.dri_shared.proofs.Places.{places_move}
 use Rattle.dri_texheap.specs.RegionStates.{AreRegionsOf, RegionState, heap_of}
 

@@ -1,19 +1,14 @@
 -- A client's copy of what its window shows, as rectangles and a corner, and what it is told.
-use Rattle.std.specs.Prelude.{◌≡◌, ℕ, ℤ, pos, negsuc, List, Bool, false}
+use Rattle.std.specs.Prelude.{◌≡◌, ℕ, ℤ, List, Bool}
 use Rattle.dri_base.specs.Scenes.{window_of}
 use Rattle.dri_base.specs.declared.scene.Scene.{Scene}
 use Rattle.dri_base.specs.declared.shape.Point.{Point}
 use Rattle.dri_base.specs.declared.shape.Rect.{Rect}
 use Rattle.dri_core.specs.Worlds.{World, clips_in}
+use Rattle.dri_draw.specs.Drawing.{has_place}
 use Rattle.dri_model.specs.Stacks.{origin}
 use Rattle.dri_rect.specs.Pixels.{inside}
 use Rattle.dri_shared.specs.declared.answers.Told.{Told}
-
--- a set of screen pixels has the place, which may lie anywhere
-abbrev pub has_place : (ℕ → ℕ → Bool) → ℤ → ℤ → Bool
-has_place set (pos x) (pos y) = set x y
-has_place set (pos x) (negsuc y) = false
-has_place set (negsuc x) y = false
 
 -- the rectangles have just the pixels of the set
 abbrev pub IsCopyOf : List Rect → (ℕ → ℕ → Bool) → Type 0

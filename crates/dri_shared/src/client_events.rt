@@ -15,11 +15,12 @@ ghost use Rattle.dri_texheap.specs.RegionStates.{IsInside, heap_of};
 
 use crate::answers::Taken;
 use crate::client_side::ClientSide;
-use crate::scripts::{texture_bytes, window_of};
+use crate::scripts::window_of;
 use crate::shared::Shared;
 use dri_base::Entry;
 use dri_client::stand;
 use dri_context::Groups;
+use dri_draw::texture_bytes;
 use dri_texheap::{Regions, Spot};
 
 /// The entry of a client's texture that is placed there.

@@ -7,7 +7,6 @@ mod answers;
 mod area;
 mod client_events;
 mod client_side;
-mod drawing;
 mod guarding;
 mod holdings;
 mod painting;

@@ -10,7 +10,8 @@ ghost use Rattle.dri_card.specs.Drawing.{OnlyCarried, OnlyShown};
 ghost use Rattle.dri_clips.specs.Paints.{IsOnScreen, filled};
 ghost use Rattle.dri_clips.specs.declared.change.ChangeFault.{ChangeFault};
 ghost use Rattle.dri_model.specs.Stacks.{moved_by, stack_after, without_owner};
-ghost use Rattle.dri_shared.specs.Drawing.{CanCarry, IsScreen, accesses, carried_along, carry_accesses, painted_pixels};
+ghost use Rattle.dri_draw.specs.Drawing.{IsScreen};
+ghost use Rattle.dri_shared.specs.Drawing.{CanCarry, accesses, carried_along, carry_accesses, painted_pixels};
 ghost use Rattle.dri_shared.specs.Holdings.{IsRestackedOn};
 
 use dri_base::{Change, OutOfMemory, Steps};

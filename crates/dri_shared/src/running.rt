@@ -12,9 +12,9 @@ ghost use Rattle.dri_shared.specs.Drawing.{touched_by_use};
 ghost use Rattle.dri_texheap.specs.RegionStates.{IsInUse, IsInside, heap_of};
 
 use crate::client_side::ClientSide;
-use crate::drawing::{clear_clips, draw_clips, swap_clips};
 use crate::scripts::{clear_of, command, triangle_of};
 use dri_base::{Entry, Point};
+use dri_draw::{clear_clips, draw_clips, swap_clips};
 use dri_rect::Region;
 use dri_texheap::{Regions, Run};
 use std::marker::Brand;

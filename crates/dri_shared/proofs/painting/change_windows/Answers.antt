@@ -1,7 +1,7 @@
 -- A change that is made, and one that is refused.
 use Rattle.std.proofs.Common.{refl}
 use Rattle.dri_model.specs.Stacks.{changed, moved_by, moves, refusal, stack_after}
-use Rattle.dri_shared.proofs.Drawn.{screen_sides}
+use Rattle.dri_draw.proofs.Drawn.{screen_sides}
 use Rattle.dri_shared.proofs.Painted.{can_carry, refused_by, restacked, stays, when_err, when_ok}
 use Rattle.dri_shared.proofs.painting.change_windows.Goals as goal
 

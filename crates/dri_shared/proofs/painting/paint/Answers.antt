@@ -1,7 +1,7 @@
 -- One paint more.
 use Rattle.std.proofs.Common.{take, ◌+◌, arith, rules, IsOk}
 use Rattle.dri_clips.specs.Paints.{filled}
-use Rattle.dri_shared.proofs.Drawn.{on_ok, only_shown, shows_same}
+use Rattle.dri_draw.proofs.Drawn.{on_ok, only_shown, shows_same}
 use Rattle.dri_shared.proofs.Painted.{filled_next, painted_more}
 use Rattle.dri_shared.proofs.painting.paint.Goals as goal
 

@@ -1,7 +1,7 @@
 -- What comes along, and then the paints.
 use Rattle.std.proofs.Common.{arith, rules}
 use Rattle.dri_shared.specs.Drawing.{carried_along}
-use Rattle.dri_shared.proofs.Drawn.{holds_shown, planes_shown, screen_kept}
+use Rattle.dri_draw.proofs.Drawn.{holds_shown, planes_shown, screen_kept}
 use Rattle.dri_shared.proofs.Painted.{paints_kept}
 use Rattle.dri_shared.proofs.painting.show.Goals as goal
 

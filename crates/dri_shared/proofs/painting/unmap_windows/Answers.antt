@@ -1,7 +1,7 @@
 -- The windows that are unmapped.
 use Rattle.std.proofs.Common.{None}
 use Rattle.dri_model.specs.Stacks.{without_owner}
-use Rattle.dri_shared.proofs.Drawn.{screen_sides}
+use Rattle.dri_draw.proofs.Drawn.{screen_sides}
 use Rattle.dri_shared.proofs.Painted.{can_carry, restacked}
 use Rattle.dri_shared.proofs.painting.unmap_windows.Goals as goal
 

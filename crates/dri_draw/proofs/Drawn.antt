@@ -10,8 +10,8 @@ use Rattle.dri_base.specs.declared.shape.Triangle.{Triangle}
 use Rattle.dri_card.specs.Contents.{Contents, HaveSides, Holds, KeepSides, Shows}
 use Rattle.dri_card.specs.Drawing.{OnlyCarried, OnlyDrawn, OnlyShown, after_triangle, cleared, drawn, swapped}
 use Rattle.dri_rect.specs.Pixels.{inside, has_pixel}
-use Rattle.dri_shared.specs.Drawing.{IsScreen, OnlyDrawnOn, cleared_in, drawn_in, in_clips, swapped_in}
-use Rattle.dri_shared.proofs.Rects.{IsSameRect, inside_more, same_pixels}
+use Rattle.dri_draw.specs.Drawing.{IsScreen, OnlyDrawnOn, cleared_in, drawn_in, in_clips, swapped_in}
+use Rattle.dri_draw.proofs.Rects.{IsSameRect, inside_more, same_pixels}
 
 -- a fact of the case that it is
 pub on_ok : {A E : Type 0} (r : Result A E) (P : Type 0) → IsOk r → OnOk r P → P

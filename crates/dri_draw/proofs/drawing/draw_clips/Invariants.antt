@@ -2,8 +2,8 @@
 use Rattle.std.proofs.Common.{ℕ, take}
 use Rattle.dri_base.specs.declared.colour.Pixel.{Pixel}
 use Rattle.dri_card.specs.Contents.{Holds, KeepSides}
-use Rattle.dri_shared.specs.Drawing.{OnlyDrawnOn, drawn_in}
-use Rattle.dri_shared.proofs.drawing.draw_clips.Given as goal
+use Rattle.dri_draw.specs.Drawing.{OnlyDrawnOn, drawn_in}
+use Rattle.dri_draw.proofs.drawing.draw_clips.Given as goal
 
 abbrev pub invariant-loop-i : goal.invariant-loop-i
 invariant-loop-i g l = record {

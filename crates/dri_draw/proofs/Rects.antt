@@ -9,7 +9,7 @@ use Rattle.dri_base.specs.declared.shape.Rect.{Rect}
 use Rattle.dri_base.specs.Planes.{in_rect}
 use Rattle.dri_plane.specs.Grids.{IsInside}
 use Rattle.dri_rect.specs.Pixels.{inside, has_pixel, IsProper, IsApart}
-use Rattle.dri_shared.specs.Copies.{has_place}
+use Rattle.dri_draw.specs.Drawing.{has_place}
 use Rattle.dri_clips.specs.Gains.{IsRectOnScreen, clip_rect}
 
 -- an item that is there

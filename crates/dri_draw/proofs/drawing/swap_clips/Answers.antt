@@ -2,10 +2,10 @@
 use Rattle.std.proofs.Common.{take, ◌+◌, List, subst, arith}
 use Rattle.dri_base.specs.declared.shape.Rect.{Rect}
 use Rattle.dri_card.specs.Contents.{HaveSides, Holds, IsOnCard, Shows}
-use Rattle.dri_shared.specs.Drawing.{swapped_in}
-use Rattle.dri_shared.proofs.Drawn.{holds_shown, swapped_more, shows_same, on_ok, only_shown}
-use Rattle.dri_shared.proofs.Rects.{shown_at, shown_small, same_inside, same_rect, take_whole}
-use Rattle.dri_shared.proofs.drawing.swap_clips.Goals as goal
+use Rattle.dri_draw.specs.Drawing.{swapped_in}
+use Rattle.dri_draw.proofs.Drawn.{holds_shown, swapped_more, shows_same, on_ok, only_shown}
+use Rattle.dri_draw.proofs.Rects.{shown_at, shown_small, same_inside, same_rect, take_whole}
+use Rattle.dri_draw.proofs.drawing.swap_clips.Goals as goal
 
 pub clip_rect-requires : goal.clip_rect-requires
 clip_rect-requires g c = shown_small c.args.card.now.front.width c.args.card.now.front.height c.rect.result c.requires.screen.wide c.requires.screen.high

@@ -1,10 +1,10 @@
 -- One rectangle more, and all.
 use Rattle.std.proofs.Common.{take, ◌+◌}
 use Rattle.dri_card.specs.Contents.{IsOnCard}
-use Rattle.dri_shared.specs.Drawing.{cleared_in}
-use Rattle.dri_shared.proofs.Drawn.{cleared_more, holds_same, on_ok, only_drawn}
-use Rattle.dri_shared.proofs.Rects.{shown_at, shown_small, same_inside, same_rect}
-use Rattle.dri_shared.proofs.drawing.clear_clips.Goals as goal
+use Rattle.dri_draw.specs.Drawing.{cleared_in}
+use Rattle.dri_draw.proofs.Drawn.{cleared_more, holds_same, on_ok, only_drawn}
+use Rattle.dri_draw.proofs.Rects.{shown_at, shown_small, same_inside, same_rect}
+use Rattle.dri_draw.proofs.drawing.clear_clips.Goals as goal
 
 pub clip_rect-requires : goal.clip_rect-requires
 clip_rect-requires g c = shown_small c.args.card.now.front.width c.args.card.now.front.height c.rect.result c.requires.screen.wide c.requires.screen.high

@@ -2,10 +2,10 @@
 use Rattle.std.proofs.Common.{take, ◌+◌, ◌++◌, ◌≡◌, ◌∙◌, ap, ℕ, List, arith}
 use Rattle.dri_card.specs.Contents.{IsOnCard}
 use Rattle.dri_model.specs.CommandWords.{triangle_words}
-use Rattle.dri_shared.specs.Drawing.{drawn_in}
-use Rattle.dri_shared.proofs.Drawn.{clipped_on, clipped_sides, drawn_more, holds_same, on_ok, only_drawn_on, rect_drawn}
-use Rattle.dri_shared.proofs.Rects.{apart_at, same_inside, same_rect, shown_at, shown_small}
-use Rattle.dri_shared.proofs.drawing.draw_clips.Goals as goal
+use Rattle.dri_draw.specs.Drawing.{drawn_in}
+use Rattle.dri_draw.proofs.Drawn.{clipped_on, clipped_sides, drawn_more, holds_same, on_ok, only_drawn_on, rect_drawn}
+use Rattle.dri_draw.proofs.Rects.{apart_at, same_inside, same_rect, shown_at, shown_small}
+use Rattle.dri_draw.proofs.drawing.draw_clips.Goals as goal
 
 pub clip_rect-requires : goal.clip_rect-requires
 clip_rect-requires g c = shown_small c.args.card.now.front.width c.args.card.now.front.height c.rect.result c.requires.screen.wide c.requires.screen.high

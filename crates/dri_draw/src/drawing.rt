@@ -7,7 +7,7 @@ ghost use Rattle.dri_base.specs.declared.colour.Rgb.{Rgb};
 ghost use Rattle.dri_base.specs.Ranges.{IsPlace, TriangleInRange};
 ghost use Rattle.dri_card.specs.Contents.{Holds, KeepSides, Shows};
 ghost use Rattle.dri_card.specs.Drawing.{OnlyDrawn, OnlyShown};
-ghost use Rattle.dri_shared.specs.Drawing.{IsScreen, OnlyDrawnOn, StayOn, cleared_in, drawn_in, swapped_in};
+ghost use Rattle.dri_draw.specs.Drawing.{IsScreen, OnlyDrawnOn, StayOn, cleared_in, drawn_in, swapped_in};
 
 use dri_base::{Point, Rgb, Steps, Triangle};
 use dri_card::Card;
@@ -17,7 +17,7 @@ use dri_rect::Region;
 use std::sync::ledger::{Blank, Ledger};
 
 /// Writes a colour and a depth into each pixel of the clips. The steps are counted from the blank on.
-pub(crate) fn clear_clips<L: Ledger>(
+pub fn clear_clips<L: Ledger>(
     blank: Blank,
     card: &mut Card,
     clips: &Region,
@@ -42,7 +42,7 @@ pub(crate) fn clear_clips<L: Ledger>(
 }
 
 /// Copies each pixel of the clips from back to front. The steps are counted from the blank on.
-pub(crate) fn swap_clips<L: Ledger>(blank: Blank, card: &mut Card, clips: &Region)
+pub fn swap_clips<L: Ledger>(blank: Blank, card: &mut Card, clips: &Region)
     requires name { blank.name ≡ L.name }
     requires parts { blank.parts ≡ L.parts }
     requires one { L.parts ≡ 1 }
@@ -61,7 +61,7 @@ pub(crate) fn swap_clips<L: Ledger>(blank: Blank, card: &mut Card, clips: &Regio
 
 /// Draws a triangle at each pixel of the clips, with the card's registers and texture memory. The window's pixel is the
 /// screen's less the origin. The steps are counted from the blank on.
-pub(crate) fn draw_clips<L: Ledger>(
+pub fn draw_clips<L: Ledger>(
     blank: Blank,
     card: &mut Card,
     clips: &Region,

@@ -4,8 +4,8 @@ use Rattle.dri_base.specs.declared.colour.Pixel.{Pixel}
 use Rattle.dri_base.specs.declared.colour.Rgb.{Rgb}
 use Rattle.dri_card.specs.Contents.{Holds, KeepSides, Shows}
 use Rattle.dri_card.specs.Drawing.{OnlyShown}
-use Rattle.dri_shared.specs.Drawing.{swapped_in}
-use Rattle.dri_shared.proofs.drawing.swap_clips.Given as goal
+use Rattle.dri_draw.specs.Drawing.{swapped_in}
+use Rattle.dri_draw.proofs.drawing.swap_clips.Given as goal
 
 abbrev pub invariant-loop-i : goal.invariant-loop-i
 invariant-loop-i g l = record {

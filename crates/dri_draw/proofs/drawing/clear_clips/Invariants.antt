@@ -3,8 +3,8 @@ use Rattle.std.proofs.Common.{ℕ, take}
 use Rattle.dri_base.specs.declared.colour.Pixel.{Pixel}
 use Rattle.dri_card.specs.Contents.{Holds, KeepSides}
 use Rattle.dri_card.specs.Drawing.{OnlyDrawn}
-use Rattle.dri_shared.specs.Drawing.{cleared_in}
-use Rattle.dri_shared.proofs.drawing.clear_clips.Given as goal
+use Rattle.dri_draw.specs.Drawing.{cleared_in}
+use Rattle.dri_draw.proofs.drawing.clear_clips.Given as goal
 
 abbrev pub invariant-loop-n : goal.invariant-loop-n
 invariant-loop-n g l = record {
