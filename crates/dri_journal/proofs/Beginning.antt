@@ -23,13 +23,7 @@ use Rattle.dri_journal.proofs.Keeping.{some_one}
 use Rattle.dri_journal.proofs.Restacked.{script_at}
 use Rattle.dri_meaning.specs.Reports.{is_whole}
 use Rattle.dri_texheap.specs.RegionStates.{RegionState, heap_of}
-
--- what stands in a list with one item more stood there, or is that item
-pushed_at : {A : Type 0} (xs : List A) (x : A) (j : ℕ) (y : A) → slice_get (xs ++ x ∷ []) j ≡ Some y → (slice_get xs j ≡ Some y) ⊎ ((j ≡ length xs) × (x ≡ y))
-pushed_at [] x zero y e = inr (refl, some_one e)
-pushed_at [] x (suc j) y e = absurd (grind arith)
-pushed_at (z ∷ xs) x zero y e = inl e
-pushed_at (z ∷ xs) x (suc j) y e = elim (pushed_at xs x j y e) [ inl h ↦ inl h | inr h ↦ inr (ap suc h.0, h.1) ]
+use Rattle.dri_core.proofs.Lists.{pushed_at}
 
 -- a part as the run begins, with regions of so many bytes
 abbrev pub Begins : ℕ → ClientScript → PartState → Type 0

@@ -7,7 +7,8 @@ use Rattle.std.proofs.lemmas.Option.{get_or_from_slice_get}
 use Rattle.dri_base.specs.declared.scene.ClientScript.{ClientScript}
 use Rattle.dri_journal.specs.Tallies.{standing_in}
 use Rattle.dri_journal.specs.declared.tally.Standing.{Standing}
-use Rattle.dri_journal.proofs.Keeping.{some_one, written}
+use Rattle.dri_journal.proofs.Keeping.{some_one}
+use Rattle.dri_core.proofs.Lists.{written}
 use Rattle.dri_meaning.specs.Reports as Reports
 use Rattle.dri_meaning.specs.Reports.{cut_by}
 

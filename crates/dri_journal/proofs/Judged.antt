@@ -25,6 +25,7 @@ use Rattle.dri_core.specs.Privates.{can_draw, can_run, is_ready, is_ready_for, i
 use Rattle.dri_core.specs.Runs.{HoldRun, after, client_of}
 use Rattle.dri_core.specs.Worlds.{World}
 use Rattle.dri_core.proofs.Decide.{legal_is}
+use Rattle.dri_core.proofs.TextureSizes.{heap_small}
 use Rattle.dri_journal.specs.Acts.{own_room}
 use Rattle.dri_journal.specs.Reasons.{Fails, IsThere, conditions, first_unmet, told_reason, ways_to_go}
 use Rattle.dri_journal.specs.Remains.{AreMarksOf}
@@ -39,23 +40,11 @@ use Rattle.dri_model.specs.Shares.{blocks_for, is_small_for, room_for}
 use Rattle.dri_texheap.specs.Placements.{placed_of}
 use Rattle.dri_texheap.specs.RegionStates.{AreRegionsOf, RegionState, heap_of}
 
--- a number that is this one
-pub number_is : (o : Option ℕ) (t : ℕ) → same_number o (Some t) ≡ true → o ≡ Some t
-number_is None t e = absurd (true≢false (sym e))
-number_is (Some a) t e = ap Some (grind (arith, nat_tests))
-
 -- a client that isn't there makes no legal entry
 pub no_client : (s : Scene) (j : List Entry) (e : Entry) → InRange s → HoldRun s j → is_clients e ≡ true → (Contains (client_numbers s.clients) (client_of e) → ⊥) → is_legal_entry s (after s j) e ≡ false
 no_client s j e good run is none = false_from_ne_true _ (λ t. none (has_number s j good run (client_of e) (some_commands s j good run e is (legal_is s (after s j) e t))))
 
--- all regions together have at most 4,194,304 bytes
-heap_small : (s : Scene) → InRange s → heap_bytes s ≤ 4194304
-heap_small s good =
-    let few : s.regions * s.region_size ≤ 64 * s.region_size = mul-le-mul_right s.region_size good.card.regions.1 in
-    let small = (region_size_within s.region_size good.card.sized).1 in
-    omega (arith, few, small)
-
--- and so has a texture
+-- a texture has at most 4,194,304 bytes, as all regions together
 pub texture_small : (s : Scene) (c t : ℕ) → InRange s → length (bytes_of (texture_in (textures_of s c) t)) ≤ 4194304
 texture_small s c t good = by_texture (texture_in (textures_of s c) t) refl
   where

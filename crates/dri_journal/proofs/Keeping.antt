@@ -31,6 +31,7 @@ use Rattle.dri_journal.specs.declared.tally.Tally.{Tally}
 use Rattle.dri_meaning.specs.Reports as Reports
 use Rattle.dri_meaning.specs.Reports.{tally, tally_after, tally_from}
 use Rattle.dri_texheap.specs.RegionStates.{AreRegionsOf, RegionState}
+use Rattle.dri_core.proofs.Lists.{apart, number_at, unwritten, written}
 
 -- the tally of one entry more
 tally_more : (s : Scene) (w : World) (t : Reports.Tally) (es : List Entry) (e : Entry) → tally_from s w t (es ++ e ∷ []) ≡ tally_after s (after_entries s w es) e (tally_from s w t es)
@@ -58,34 +59,6 @@ faithful s j k e board board' regions regions' parts parts' t t' m m' good legal
 
 pub some_one : {A : Type 0} {x y : A} → Some x ≡ Some y → x ≡ y
 some_one e = cc
-
--- what was written stands there, and what stands elsewhere stood there
-pub written : {A : Type 0} (xs : List A) (i : ℕ) (x y : A) → slice_get (set xs i x) i ≡ Some y → y ≡ x
-written xs i x y e =
-    let within : i < length (set xs i x) = slice_get_within (set xs i x) i y e in
-    let inside : i < length xs = omega (arith, within, length-set xs i x) in
-    sym (get_or_from_slice_get (set xs i x) i y x e) ∙ get_or-set_same xs i x x inside
-
-pub unwritten : {A : Type 0} (xs : List A) (i k : ℕ) (x y : A) → k ≢ i → slice_get (set xs i x) k ≡ Some y → slice_get xs k ≡ Some y
-unwritten xs i k x y ne e =
-    let within : k < length (set xs i x) = slice_get_within (set xs i x) k y e in
-    let inside : k < length xs = omega (arith, within, length-set xs i x) in
-    slice_get-get_or xs k y inside ∙ ap Some (sym (get_or-set_other xs i k x y ne) ∙ get_or_from_slice_get (set xs i x) k y y e)
-
--- at two places of numbers that rise stand two numbers
-apart : (ns : List ℕ) (i k n m : ℕ) → AllPairs ◌<◌ ns → slice_get ns i ≡ Some n → slice_get ns k ≡ Some m → k ≢ i → m ≢ n
-apart ns i k n m rising at_i at_k ne same = by_order (nat_lt i k) refl
-  where
-    by_order : (b : Bool) → nat_lt i k ≡ b → ⊥
-    by_order true o =
-        let lt : i < k = grind (arith, nat_tests) in
-        omega (arith, rising i k 0 lt (slice_get_within ns k m at_k), get_or_from_slice_get ns i n 0 at_i, get_or_from_slice_get ns k m 0 at_k, same)
-    by_order false o =
-        let lt : k < i = grind (arith, nat_tests, ne) in
-        omega (arith, rising k i 0 lt (slice_get_within ns i n at_i), get_or_from_slice_get ns i n 0 at_i, get_or_from_slice_get ns k m 0 at_k, same)
-
-pub number_at : (ps : List ClientScript) (i : ℕ) (p : ClientScript) → slice_get ps i ≡ Some p → slice_get (client_numbers ps) i ≡ Some p.number
-number_at ps i p e = slice_get-map (λ (q : ClientScript). q.number) ps i ∙ ap (option_map (λ (q : ClientScript). q.number)) e
 
 -- two clients at two places
 pub other_client : (s : Scene) (c i k : ℕ) (p : ClientScript) → InRange s → slice_get s.clients i ≡ Some (script_of s c) → slice_get s.clients k ≡ Some p → k ≢ i → p.number ≢ c

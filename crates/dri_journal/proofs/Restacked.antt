@@ -31,7 +31,8 @@ use Rattle.dri_journal.specs.Tallies.{AreCut, IsTallyOf, has_number, is_cut, sta
 use Rattle.dri_journal.specs.declared.tally.Standing.{Standing}
 use Rattle.dri_journal.specs.declared.tally.Standing.TheVariants as Standing_is
 use Rattle.dri_journal.specs.declared.tally.Tally.{Tally}
-use Rattle.dri_journal.proofs.Keeping.{number_at, some_one}
+use Rattle.dri_journal.proofs.Keeping.{some_one}
+use Rattle.dri_core.proofs.Lists.{number_at}
 use Rattle.dri_journal.proofs.Whom.{client_in_range}
 use Rattle.dri_meaning.specs.Reports as Reports
 use Rattle.dri_meaning.specs.Reports.{cut_by, tally_cut}

@@ -7,16 +7,9 @@ use Rattle.dri_clips.specs.Boards.{IsRestacked, Screen, stamps_of}
 use Rattle.dri_clips.specs.declared.change.ChangeFault.{ChangeFault}
 use Rattle.dri_clips.specs.declared.change.ChangeFault.TheVariants.{NoWindow, OutOfRange, AlreadyMapped, NotMapped, OutOfMemory}
 use Rattle.dri_clips.specs.declared.touched.Touched.{Touched}
-use Rattle.dri_core.proofs.Stamps.{untouched}
+use Rattle.dri_core.proofs.Stamps.{none_touched, unstamped, untouched}
 use Rattle.dri_model.specs.Counting.{how_many}
 use Rattle.dri_model.specs.Stacks.{Refusal, is_touched, restamped, unless_refused}
-
-none_touched : (p : ℕ → Bool) (n : ℕ) → ((k : ℕ) → p k ≡ false) → how_many p n ≡ 0
-none_touched p zero none = refl
-none_touched p (suc n) none = rw (none n) (none_touched p n none)
-
-unstamped : (width height : ℕ) (ws : List Window) (counter : ℕ) (stamps : ℕ → ℕ) (n : ℕ) → stamps n ≡ restamped width height ws ws counter stamps n
-unstamped width height ws counter stamps n = rw (untouched width height ws n) refl
 
 -- a fault that isn't want of memory tells a refusal
 pub some_refusal : (r : Option Refusal) (fault : ChangeFault) → fault ≢ OutOfMemory →

@@ -21,7 +21,7 @@ use Rattle.dri_core.proofs.RunLaws.{acting_current}
 use Rattle.dri_model.specs.Stacks.{is_window, top}
 use Rattle.dri_shared.specs.Copies.{IsCopyOf}
 use Rattle.dri_draw.specs.Drawing.{StayOn}
-use Rattle.dri_shared.proofs.Windows.{has_after, has_contains, has_owned}
+use Rattle.dri_core.proofs.Windows.{has_after, has_contains, has_owned}
 
 -- what holds of each script, and of a client's without one, holds of each client's
 pub script_meets : (P : ClientScript → Type 0) (ps : List ClientScript) (c : ℕ) → All P ps → P (record { number = c; window = 0; textures = []; commands = [] }) → P (script_in ps c)

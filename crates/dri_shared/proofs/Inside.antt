@@ -2,15 +2,13 @@
 use Rattle.std.proofs.Common.{◌≡◌, ◌<◌, ◌≤◌, ℕ, ◌+◌, ◌-◌, ◌*◌, ◌/◌, List, [], ◌∷◌, length, Bool, true, false, ◌==◌, Option, Some, None, IfSome, refl, sym, subst, arith, ap, ◌∙◌, inl, inr}
 use Rattle.std.specs.Prelude.{◌⊎◌}
 use Rattle.std.proofs.lemmas.Bool.Decides.{nat_tests}
-use Rattle.std.proofs.Math.Nat.{div-lt_iff_lt-mul, div-mul-le_self, le-mul_of_pos_right}
+use Rattle.std.proofs.Math.Nat.{div-lt_iff_lt-mul, div-mul-le_self}
 use Rattle.dri_base.specs.Ranges.{InRange, TextureInRange, heap_bytes}
-use Rattle.dri_base.specs.Scenes.{texel_bytes, textures_of}
+use Rattle.dri_base.specs.Scenes.{textures_of}
 use Rattle.dri_base.specs.Texels.{texture_bound}
 use Rattle.dri_base.specs.declared.journal.Entry.{Entry}
 use Rattle.dri_base.specs.declared.journal.Entry.TheVariants as Entry_is
 use Rattle.dri_base.specs.declared.scene.Scene.{Scene}
-use Rattle.dri_base.specs.declared.texture.TexFormat.{TexFormat}
-use Rattle.dri_base.specs.declared.texture.TexFormat.TheVariants.{L8, Rgb565}
 use Rattle.dri_base.specs.declared.texture.Texture.{Texture}
 use Rattle.dri_base.proofs.RangeLemmas.{textures_in_range, well_formed}
 use Rattle.dri_base.proofs.RegionSizes.{region_size_above, region_size_within}
@@ -25,7 +23,7 @@ use Rattle.dri_core.proofs.Packing.{kept_level, kept_one, level_cases, no_some, 
 use Rattle.dri_core.proofs.Parts.{put_here, put_keeps}
 use Rattle.dri_core.proofs.Sizes.{small_one}
 use Rattle.dri_core.proofs.Sound.{Sound, sound_after, sound_kept}
-use Rattle.dri_core.proofs.TextureSizes.{place_inside}
+use Rattle.dri_core.proofs.TextureSizes.{place_inside, some_bytes}
 use Rattle.dri_core.proofs.Textures.{Held}
 use Rattle.dri_model.specs.Groups.{no_groups}
 use Rattle.dri_model.specs.Heaps.{Run, Spot, base_of, in_run, is_newer}
@@ -111,10 +109,6 @@ within_memory size regions base bytes run sized some inside last =
     let below : (base + (bytes - 1)) / size < regions = grind (arith, nat_tests) in
     let place : base + (bytes - 1) < regions * size = (div-lt_iff_lt-mul {k = size} sized).0 below in
     omega (arith, place, some)
-
-some_bytes : (f : TexFormat) (w h n : ℕ) → n ≡ texel_bytes f * (w * h) → 1 ≤ w → 1 ≤ h → 0 < n
-some_bytes L8 w h n e lw lh = let high : 0 < h = omega (arith, lh) in omega (arith, e, lw, le-mul_of_pos_right w high)
-some_bytes Rgb565 w h n e lw lh = let high : 0 < h = omega (arith, lh) in omega (arith, e, lw, le-mul_of_pos_right w high)
 
 -- a texture in range has some bytes
 pub has_bytes : (heap : ℕ) (p : Texture) → TextureInRange heap p → 0 < length p.bytes

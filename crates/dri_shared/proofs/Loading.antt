@@ -188,18 +188,6 @@ module _ (s : Scene) (h : Holdings) (w : World) (c : ℕ) (is : IsWorld s h w) w
     made = is.made;
   }
 
--- all regions together have at most 4,194,304 bytes
-pub heap_small : (s : Scene) → InRange s → heap_bytes s ≤ 4194304
-heap_small s good =
-    let few : s.regions * s.region_size ≤ 64 * s.region_size = mul-le-mul_right s.region_size good.card.regions.1 in
-    let small = (region_size_within s.region_size good.card.sized).1 in
-    omega (arith, few, small)
-
--- an answer that isn't an error
-pub not_err : {A E : Type 0} (r : Result A E) → (IsErr r → ⊥) → IsOk r
-not_err (Ok x) never = refl
-not_err (Err e) never = absurd (never refl)
-
 -- a place by the heap's rule, in other words
 pub place_is : (m n : ℕ) (h k : Heap) (count wanted first : ℕ) → m ≡ n → h ≡ k → wanted ≡ count → is_place_for m h count first ≡ true → is_place_for n k wanted first ≡ true
 place_is m n h k count wanted first regions heaps size place = rw (← regions, ← heaps, size) place

@@ -27,7 +27,8 @@ use Rattle.dri_shared.specs.Holdings.{IsWorld}
 use Rattle.dri_shared.specs.declared.holdings.Holdings.{Holdings}
 use Rattle.dri_texheap.specs.RegionStates.{heap_of}
 use Rattle.dri_shared.proofs.Clients.{number_below}
-use Rattle.dri_shared.proofs.Windows.{Has, IsOther, has_after, has_contains, others_after}
+use Rattle.dri_core.proofs.Windows.{Has, has_after, has_contains}
+use Rattle.dri_shared.proofs.Windows.{IsOther, others_after}
 
 -- a window is there, or each has another number
 has_some : (ws : List Window) (n : ℕ) → has_number ws n ≡ true → Has n ws

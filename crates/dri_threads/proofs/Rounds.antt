@@ -20,7 +20,7 @@ use Rattle.dri_core.specs.Privates.{opening_part}
 use Rattle.dri_core.specs.Runs.{after}
 use Rattle.dri_driver.specs.Clients.{ClientState}
 use Rattle.dri_driver.specs.Opening.{AreOpening, IsOpening}
-use Rattle.dri_driver.proofs.Openings.{number_at}
+use Rattle.dri_core.proofs.Lists.{number_at}
 use Rattle.dri_threads.specs.Sessions.{is_at_rest}
 use Rattle.dri_threads.specs.Actors.{IsNumber, Stands}
 use Rattle.dri_threads.specs.Rounds.{AreBelow, IsEnough, IsServed, AreServed}

@@ -9,7 +9,8 @@ use Rattle.dri_base.specs.declared.scene.Scene.{Scene}
 use Rattle.dri_driver.specs.Clients.{ClientState}
 use Rattle.dri_core.specs.Privates.{opening_part}
 use Rattle.dri_driver.specs.Opening.{IsOpening}
-use Rattle.dri_driver.proofs.Openings.{number_at, opening_more}
+use Rattle.dri_driver.proofs.Openings.{opening_more}
+use Rattle.dri_core.proofs.Lists.{number_at}
 use Rattle.dri_driver.proofs.opening.clients_of.Goals as goal
 
 pub new-requires-clause-there : goal.new-requires-clause-there

@@ -10,7 +10,8 @@ use Rattle.dri_base.specs.declared.scene.ClientScript.{ClientScript}
 use Rattle.dri_base.proofs.RangeLemmas.{well_formed}
 use Rattle.dri_core.specs.Runs.{after, client_of}
 use Rattle.dri_core.proofs.Bounds.{made_bounded}
-use Rattle.dri_journal.proofs.Judged.{emit, gone, info, kernel, leave, light, number_is, place, stale, texture_small}
+use Rattle.dri_journal.proofs.Judged.{emit, gone, info, kernel, leave, light, place, stale, texture_small}
+use Rattle.dri_core.proofs.Decide.{number_is}
 use Rattle.dri_journal.proofs.Judged as Judged
 use Rattle.dri_journal.proofs.Keeping.{part_found, some_one}
 use Rattle.dri_journal.proofs.Legal.{age_small, needed_bytes}

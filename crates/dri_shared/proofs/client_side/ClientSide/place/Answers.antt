@@ -17,7 +17,8 @@ use Rattle.dri_model.specs.Shares.{is_small_for}
 use Rattle.dri_shared.specs.Commands.{WantsPlace}
 use Rattle.dri_shared.specs.States.{MayAdd, SharedState, world_of}
 use Rattle.dri_draw.proofs.Drawn.{on_ok}
-use Rattle.dri_shared.proofs.Loading.{heap_small, placeable, placed, put_is}
+use Rattle.dri_core.proofs.TextureSizes.{heap_small}
+use Rattle.dri_shared.proofs.Loading.{placeable, placed, put_is}
 use Rattle.dri_shared.proofs.Steps.{faithful}
 use Rattle.dri_texheap.specs.RegionStates.{IsInside, heap_of}
 use Rattle.dri_shared.proofs.client_side.ClientSide.place.Goals as goal

@@ -1,6 +1,6 @@
 use Rattle.std.proofs.Common.{◌≡◌, ◌∙◌, Some, length, take, ap, inr, sym, subst, rules, arith}
 use Rattle.std.specs.Prelude.{◌||◌, slice_get}
-use Rattle.dri_driver.proofs.Openings.{number_at}
+use Rattle.dri_core.proofs.Lists.{number_at}
 use Rattle.dri_base.specs.Ranges.{client_numbers}
 use Rattle.dri_base.specs.declared.scene.Scene.{Scene}
 use Rattle.dri_core.specs.Turns.{played, round}
