@@ -215,19 +215,18 @@ fn square(number: u8, owner: u32, x: i32, y: i32, side: u32) -> Window {
     }
 }
 
-/// On a screen of 4 by 4 window 1 hangs off it over window 2, window 3 has the rectangle of window 2 below it, and
-/// window 4 has one pixel.
-fn four_windows(alloc: Global) -> Result<Board, OutOfMemory>
+/// The board of a screen with these sides and windows, and nobody to draw on them.
+fn board_of(
+    alloc: Global,
+    width: u32,
+    height: u32,
+    windows: Sequence<Window>,
+) -> Result<Board, OutOfMemory>
     ensures { IfOk result (λ board. board.counter ≡ 1) }
 {
-    let mut windows = Sequence::new(alloc);
-    windows.push(square(1, 1, -1, -1, 3))?;
-    windows.push(square(2, 2, 1, 1, 2))?;
-    windows.push(square(3, 2, 1, 1, 2))?;
-    windows.push(square(4, 1, 3, 3, 1))?;
     let scene = Scene {
-        width: 4,
-        height: 4,
+        width,
+        height,
         root: grey(0),
         regions: 1,
         region_size: 256,
@@ -240,6 +239,19 @@ fn four_windows(alloc: Global) -> Result<Board, OutOfMemory>
         return Err(OutOfMemory);
     }
     Board::new(alloc, &scene)
+}
+
+/// On a screen of 4 by 4 window 1 hangs off it over window 2, window 3 has the rectangle of window 2 below it, and
+/// window 4 has one pixel.
+fn four_windows(alloc: Global) -> Result<Board, OutOfMemory>
+    ensures { IfOk result (λ board. board.counter ≡ 1) }
+{
+    let mut windows = Sequence::new(alloc);
+    windows.push(square(1, 1, -1, -1, 3))?;
+    windows.push(square(2, 2, 1, 1, 2))?;
+    windows.push(square(3, 2, 1, 1, 2))?;
+    windows.push(square(4, 1, 3, 3, 1))?;
+    board_of(alloc, 4, 4, windows)
 }
 
 /// A change, the windows that it touches, and its paints: a colour's number and the rectangle's x1, y1, x2 and y2.
@@ -428,21 +440,7 @@ fn three_windows(alloc: Global) -> Result<Board, OutOfMemory>
         height: 1,
         ..square(1, 1, 0, 0, 2)
     })?;
-    let scene = Scene {
-        width: 4,
-        height: 2,
-        root: grey(0),
-        regions: 1,
-        region_size: 256,
-        windows,
-        clients: Sequence::new(alloc),
-        changes: Sequence::new(alloc),
-        turns: Sequence::new(alloc),
-    };
-    if !scene.in_range() {
-        return Err(OutOfMemory);
-    }
-    Board::new(alloc, &scene)
+    board_of(alloc, 4, 2, windows)
 }
 
 /// A window that is moved, and its new corner; the windows that are touched, and the paints; what is carried, if something
