@@ -11,3 +11,13 @@ pub mod Held
 pub mod Rounding
 -- what turns and kills answer
 pub mod Answering
+-- groups: their order, and what they keep
+pub mod Orders
+pub mod Tidy
+pub mod Stepping
+pub mod Playing
+pub mod Cutting
+pub mod Ending
+pub mod Seating
+pub mod Parties
+pub mod Overs

@@ -5,14 +5,17 @@
 
 mod client_events;
 mod client_turns;
+mod groups;
 mod lock;
 mod rounds;
 mod schedule;
+mod seat;
 mod server_turns;
 mod site;
 mod turned;
 mod turning;
 mod world;
 
+pub use groups::run_groups;
 pub use turned::Turned;
 pub use world::World;

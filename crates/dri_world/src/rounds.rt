@@ -46,7 +46,7 @@ impl World {
 }
 
 /// Whether an event was made.
-fn is_move(turned: &Turned) -> bool
+pub(crate) fn is_move(turned: &Turned) -> bool
     ensures { result ≡ is_move turned.now }
 {
     matches!(turned, Turned::Did(_))
