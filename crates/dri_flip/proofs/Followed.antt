@@ -1,37 +1,32 @@
 -- One entry more on the card, and the entries of a journal one after the other.
-use Rattle.std.proofs.Common.{◌≡◌, ◌<◌, ◌≤◌, ◌+◌, ℕ, zero, suc, List, [], ◌∷◌, ◌++◌, length, take, get_or, Err, Result, refl, ◌∙◌, sym, ap, subst, arith}
+use Rattle.std.proofs.Common.{◌≡◌, ◌≤◌, ℕ, List, [], length, Err, Result, ◌∙◌, sym, ap, subst, arith}
 use Rattle.std.proofs.lemmas.List.{take_all}
-use Rattle.dri_base.specs.Limits.{word_end}
 use Rattle.dri_base.specs.Planes.{plane}
 use Rattle.dri_base.specs.Ranges.{InRange}
 use Rattle.dri_base.specs.declared.journal.Entry.{Entry}
 use Rattle.dri_base.specs.declared.scene.Scene.{Scene}
-use Rattle.dri_core.proofs.FirstBad.{bad_is_no_run, first_bad_at}
-use Rattle.dri_core.proofs.Laws.{HoldRun-more}
-use Rattle.dri_core.specs.EntryTable.{LegalEntry}
+use Rattle.dri_core.proofs.FirstBad.{bad_is_no_run}
 use Rattle.dri_core.specs.FirstBad.{IsFirstBad}
-use Rattle.dri_core.specs.Runs.{HoldRun, after, client_of}
-use Rattle.dri_flip.proofs.Lifted.{made_after, may_make, opened, taken, with_entry}
+use Rattle.dri_core.specs.Runs.{HoldRun, client_of}
+use Rattle.dri_flip.proofs.Lifted.{made_after, opened}
 use Rattle.dri_flip.proofs.Counting.{few_owed}
-use Rattle.dri_flip.specs.Follows.{IsAfter, IsFollowing, IsMade, MayMake, counted}
+use Rattle.dri_flip.specs.Follows.{IsAfter, IsFollowing, IsMade, counted}
 use Rattle.dri_flip.specs.Meanings.{HaveSides, IsOpening}
 use Rattle.dri_flip.specs.Owings.{Owing, nothing_owed}
 use Rattle.dri_flip.specs.Replays.{IsShown, Replays}
 use Rattle.dri_flip.specs.declared.counted.CountedCard.{CountedCard}
-use Rattle.dri_flip.specs.declared.fault.ReplayFault.{ReplayFault}
-use Rattle.dri_flip.specs.declared.fault.ReplayFault.TheVariants as replay_faults
 use Rattle.dri_flip.specs.declared.shown.Shown.{Shown}
 use Rattle.dri_journal.specs.Deeds.{Does}
 use Rattle.dri_journal.specs.Replays.{MayTake, ReplayState, Steps, Took, world_of}
 use Rattle.dri_journal.specs.declared.deed.Deed.{Deed}
 use Rattle.dri_journal.specs.declared.refusal.StepFault.{StepFault}
 use Rattle.dri_journal.specs.declared.refusal.StepFault.TheVariants as faults
+use Rattle.dri_replay.proofs.Lifted.{taken, with_entry}
+use Rattle.dri_replay.proofs.Taken.{AreTaken}
+use Rattle.dri_replay.specs.declared.fault.ReplayFault.{ReplayFault}
+use Rattle.dri_replay.specs.declared.fault.ReplayFault.TheVariants as replay_faults
 
 module _ (old new : ReplayState) (e : Entry) (deed : Deed) (n : ℕ) (good : InRange old.scene) (run : HoldRun old.scene old.entries) (legal : MayTake old e) (took : Took old new e) (does : Does old.scene (world_of old) e deed) (client : n ≡ client_of e) where
-  -- what the deed of an entry that was taken needs
-  pub may : MayMake new n deed
-  may = subst (λ v. MayMake v n deed) (taken old new e took) (subst (λ k. MayMake (with_entry old.scene old.entries e) k deed) (sym client) (may_make old.scene old.entries good run e deed legal does))
-
   -- the card that made it follows
   pub follows : (card made : CountedCard) → IsAfter old card → IsMade new n deed card made → IsAfter new made
   follows card made before is =
@@ -53,51 +48,9 @@ pub not_followed : (A : Type 0) (old new : ReplayState) (e : Entry) (card : Coun
 not_followed A old new e card (faults.Refused refusal) steps = steps.0
 not_followed A old new e card faults.OutOfMemory steps = tt
 
-take_more : (xs : List Entry) (n : ℕ) (d : Entry) → n < length xs → take n xs ++ get_or xs n d ∷ [] ≡ take (suc n) xs
-take_more [] n d lt = absurd (omega (arith, lt))
-take_more (x ∷ xs) zero d lt = refl
-take_more (x ∷ xs) (suc n) d lt = ap (λ ys. x ∷ ys) (take_more xs n d (omega (arith, lt)))
-
--- so many entries were taken
-pub record AreTaken (s : Scene) (xs : List Entry) (n : ℕ) (v : ReplayState) : Type 0 where
-  pub scene : v.scene ≡ s
-  pub entries : v.entries ≡ take n xs
-  pub run : HoldRun s (take n xs)
-
-legal_at : (s : Scene) (xs : List Entry) (n : ℕ) (v : ReplayState) (e : Entry) → AreTaken s xs n v → MayTake v e → LegalEntry s (after s (take n xs)) e
-legal_at s xs n v e are may = subst (λ t. LegalEntry t (after t (take n xs)) e) are.scene (subst (λ ys. LegalEntry v.scene (after v.scene ys) e) are.entries may)
-
-legal_of : (s : Scene) (xs : List Entry) (n : ℕ) (v : ReplayState) (e : Entry) → AreTaken s xs n v → LegalEntry s (after s (take n xs)) e → MayTake v e
-legal_of s xs n v e are legal = subst (λ ys. LegalEntry v.scene (after v.scene ys) e) (sym are.entries) (subst (λ t. LegalEntry t (after t (take n xs)) e) (sym are.scene) legal)
-
 -- before the first
-pub begun : (s : Scene) (xs : List Entry) (v : ReplayState) (card : CountedCard) → v ≡ record { scene = s; entries = [] } → IsOpening s card.card → counted card ≡ nothing_owed → AreTaken s xs 0 v × IsAfter v card
-begun s xs v card e is none =
-    (record { scene = ap (λ (u : ReplayState). u.scene) e; entries = ap (λ (u : ReplayState). u.entries) e; run = tt }, subst (λ (u : ReplayState). IsAfter u card) (sym e) (opened s card is none))
-
--- one more
-pub one_taken : (s : Scene) (xs : List Entry) (n : ℕ) (old new : ReplayState) (d : Entry) → n < length xs → AreTaken s xs n old → MayTake old (get_or xs n d) → Took old new (get_or xs n d) → AreTaken s xs (n + 1) new
-one_taken s xs n old new d lt are may took = record {
-  scene = took.scene ∙ are.scene;
-  entries = took.entries ∙ ap (λ ys. ys ++ get_or xs n d ∷ []) are.entries ∙ take_more xs n d lt ∙ ap (λ k. take k xs) (next n);
-  run = HoldRun-more s xs n d lt are.run (legal_at s xs n old (get_or xs n d) are may);
-}
-  where
-    next : (k : ℕ) → suc k ≡ k + 1
-    next k = omega arith
-
--- there are fewer than can be counted
-pub few_taken : (s : Scene) (xs : List Entry) (n : ℕ) (v : ReplayState) → AreTaken s xs n v → n < length xs → length xs < word_end → length v.entries + 1 < word_end
-few_taken s xs n v are lt few = omega (arith, ap (λ (ys : List Entry). length ys) are.entries, short n xs, lt, few)
-  where
-    short : (k : ℕ) (ys : List Entry) → length (take k ys) ≤ k
-    short zero ys = omega arith
-    short (suc k) [] = omega arith
-    short (suc k) (y ∷ ys) = omega (arith, short k ys)
-
--- the first entry that was refused
-pub first_refused : (s : Scene) (xs : List Entry) (n : ℕ) (old : ReplayState) (d : Entry) → n < length xs → AreTaken s xs n old → (MayTake old (get_or xs n d) → ⊥) → IsFirstBad s xs (n + 1)
-first_refused s xs n old d lt are refused = first_bad_at s xs n d lt are.run (λ legal. refused (legal_of s xs n old (get_or xs n d) are legal))
+pub begun : (s : Scene) (v : ReplayState) (card : CountedCard) → v ≡ record { scene = s; entries = [] } → IsOpening s card.card → counted card ≡ nothing_owed → IsAfter v card
+begun s v card e is none = subst (λ (u : ReplayState). IsAfter u card) (sym e) (opened s card is none)
 
 -- what is shown of all entries
 pub shown_is : (v : ReplayState) (card : CountedCard) (shown : Shown) → IsAfter v card → HoldRun v.scene v.entries → shown.picture.width ≡ card.card.front.width → shown.picture.height ≡ card.card.front.height → shown.picture.pixels ≡ card.card.front.pixels →

@@ -13,7 +13,6 @@ pub mod Drawn
 -- What a journal owes, and what its entries touch
 mod Sets
 mod Counting
-mod Stacked
 mod Changed
 mod Painting
 mod Counts

@@ -21,7 +21,7 @@ use Rattle.dri_flip.proofs.Sets.{fill_is, touch_is}
 use Rattle.dri_flip.specs.Calls.{IsImage, OnlyDrawn, OnlyShown, cleared_in, drawn_in, fill, swapped_in, touch}
 use Rattle.dri_clips.specs.Paints.{filled as filled_by}
 use Rattle.dri_clips.specs.declared.touched.Touched.{Touched}
-use Rattle.dri_flip.specs.Follows.{AreRectsOf, IsMade, IsScreen, back_made, carried_along, clips_now, counted, has_change, state_now}
+use Rattle.dri_flip.specs.Follows.{AreRectsOf, IsMade, IsScreen, counted, has_change}
 use Rattle.dri_flip.specs.Meanings.{HaveSides, Holds, KeepSides, Meaning, Shows}
 use Rattle.dri_flip.specs.Owings.{flipped_where, paid_where}
 use Rattle.dri_flip.specs.Places.{has_all, has_some}
@@ -32,6 +32,7 @@ use Rattle.dri_meaning.specs.Scripts.{HasTexels}
 use Rattle.dri_model.specs.Stacks.{origin}
 use Rattle.dri_plane.specs.Grids.{Grid}
 use Rattle.dri_plane.specs.Runs.{HoldPairs}
+use Rattle.dri_replay.specs.Makings.{back_made, carried_along, clips_now, state_now}
 
 -- where only back was drawn, front shows what it showed; where only front was, back and depth hold what they held
 front_left : (old new : Meaning) (shown : ℕ → ℕ → Rgb) → OnlyDrawn old new → Shows old shown → Shows new shown

@@ -1,21 +1,13 @@
 -- A card that follows a replay: what each deed makes of it, and what is counted.
-use Rattle.std.specs.Prelude.{◌≡◌, ◌<◌, ℕ, Bool, false, ◌||◌, if◌then◌else◌, List, length, nat_lt, Option, Some, None, is_some, IfSome, All, AllPairs, Contains, Result, Ok, Err}
-use Rattle.dri_base.specs.Fragments.{fragment, rules_of}
-use Rattle.dri_base.specs.Ranges.{TriangleInRange, client_numbers}
-use Rattle.dri_base.specs.Scenes.{textures_of}
-use Rattle.dri_base.specs.Texels.{own_image}
+use Rattle.std.specs.Prelude.{◌≡◌, ℕ, Bool, false, ◌||◌, List, length, nat_lt, is_some, All, AllPairs, Result, Ok, Err}
 use Rattle.dri_base.specs.declared.colour.Pixel.{Pixel}
 use Rattle.dri_base.specs.declared.colour.Rgb.{Rgb}
 use Rattle.dri_base.specs.declared.journal.Entry.{Entry}
 use Rattle.dri_base.specs.declared.scene.Scene.{Scene}
 use Rattle.dri_base.specs.declared.shape.ClipRect.{ClipRect}
-use Rattle.dri_base.specs.declared.state.State.{State}
-use Rattle.dri_card.specs.Drawing.{carried_by, in_rects}
-use Rattle.dri_clips.specs.Paints.{IsOnScreen, StaysOnScreen, filled}
-use Rattle.dri_clips.specs.declared.touched.Carry.{Carry}
+use Rattle.dri_card.specs.Drawing.{in_rects}
 use Rattle.dri_clips.specs.declared.touched.Touched.{Touched}
-use Rattle.dri_core.specs.Frames.{across, down}
-use Rattle.dri_core.specs.Worlds.{World, clips_in}
+use Rattle.dri_core.specs.Worlds.{World}
 use Rattle.dri_flip.specs.Meanings.{HaveSides, Holds, KeepSides, Meaning, Shows}
 use Rattle.dri_flip.specs.Owings.{Owing, flipped_where, owing, paid_where}
 use Rattle.dri_flip.specs.Places.{has_all, has_some}
@@ -27,6 +19,7 @@ use Rattle.dri_journal.specs.declared.refusal.StepFault.{StepFault}
 use Rattle.dri_journal.specs.declared.refusal.StepFault.TheVariants as faults
 use Rattle.dri_plane.specs.Grids.{IsInside}
 use Rattle.dri_plane.specs.Moves.{AreApart}
+use Rattle.dri_replay.specs.Makings.{back_made, clips_now, front_made}
 
 -- what the card owes, and what was counted
 abbrev pub counted : CountedCard → Owing
@@ -53,37 +46,9 @@ pub record AreRectsOf (width height : ℕ) (places : ℕ → ℕ → Bool) (rect
   pub apart : AllPairs AreApart rects
   pub has : (x y : ℕ) → in_rects rects x y ≡ places x y
 
--- client c's clips after the entries
-abbrev pub clips_now : ReplayState → ℕ → ℕ → ℕ → Bool
-clips_now v c = clips_in v.scene (world_of v) c
-
--- client c's state after the entries
-abbrev pub state_now : ReplayState → ℕ → State
-state_now v c = ((world_of v).client c).state
-
--- the pixels after what is carried, if there is something, came along
-abbrev pub carried_along : {A : Type 0} → Option Carry → (ℕ → ℕ → A) → ℕ → ℕ → A
-carried_along None f x y = f x y
-carried_along (Some carry) f x y = carried_by carry.rects carry.dx carry.dy f x y
-
 -- something is carried or painted
 abbrev pub has_change : Touched → Bool
 has_change touched = is_some touched.carry || nat_lt 0 (length touched.paints)
-
--- back, with its depth, after a deed of client c
-abbrev pub back_made : ReplayState → ℕ → Deed → (ℕ → ℕ → Pixel) → ℕ → ℕ → Pixel
-back_made v c (Deed_is.Clear colour depth) f x y = if clips_now v c x y then record { colour = colour; depth = depth } else f x y
-back_made v c (Deed_is.Triangle t) f x y =
-    if clips_now v c x y then fragment (rules_of (state_now v c)) (own_image (textures_of v.scene c) (state_now v c).bound) t (across v.scene (world_of v) c x) (down v.scene (world_of v) c y) (f x y)
-    else f x y
-back_made v c (Deed_is.Touched touched) f x y = carried_along touched.carry f x y
-back_made v c deed f x y = f x y
-
--- front after it, where back had these pairs
-abbrev pub front_made : ReplayState → ℕ → Deed → (ℕ → ℕ → Pixel) → (ℕ → ℕ → Rgb) → ℕ → ℕ → Rgb
-front_made v c Deed_is.Swap f shown x y = if clips_now v c x y then (f x y).colour else shown x y
-front_made v c (Deed_is.Touched touched) f shown x y = filled touched.paints (carried_along touched.carry shown) x y
-front_made v c deed f shown x y = shown x y
 
 -- the deed touches
 abbrev pub touches_made : ReplayState → ℕ → Deed → Bool
@@ -111,25 +76,6 @@ pub record IsMade (v : ReplayState) (c : ℕ) (deed : Deed) (old new : CountedCa
   pub held : (f : ℕ → ℕ → Pixel) → Holds old.card f → Holds new.card (back_made v c deed f)
   pub shown : (f : ℕ → ℕ → Pixel) (shown : ℕ → ℕ → Rgb) → Holds old.card f → Shows old.card shown → Shows new.card (front_made v c deed f shown)
   pub owes : counted new ≡ owing_made v c deed (counted old)
-
--- a screen of these sides can carry it: rectangles that stay on it, of which there are some, and none of which share a pixel
-pub record CanCarry (width height : ℕ) (carry : Carry) : Type 0 where
-  pub some : 0 < length carry.rects
-  pub each : All (StaysOnScreen carry.dx carry.dy width height) carry.rects
-  pub apart : AllPairs AreApart carry.rects
-
--- a screen of these sides can carry and paint what is touched
-pub record CanShow (width height : ℕ) (touched : Touched) : Type 0 where
-  pub carry : IfSome touched.carry (CanCarry width height)
-  pub paints : All (λ p. IsOnScreen width height p.rect) touched.paints
-
--- what a deed of client c needs
-abbrev pub MayMake : ReplayState → ℕ → Deed → Type 0
-MayMake v c Deed_is.Nothing = Unit {0}
-MayMake v c (Deed_is.Clear colour depth) = Contains (client_numbers v.scene.clients) c
-MayMake v c (Deed_is.Triangle t) = Contains (client_numbers v.scene.clients) c × TriangleInRange t
-MayMake v c Deed_is.Swap = Contains (client_numbers v.scene.clients) c
-MayMake v c (Deed_is.Touched touched) = CanShow v.scene.width v.scene.height touched
 
 -- a legal entry was taken, and the card follows; another is refused
 abbrev pub IsFollowing : {A : Type 0} → ReplayState → ReplayState → Entry → CountedCard → Result A StepFault → Type 0

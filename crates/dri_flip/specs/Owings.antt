@@ -1,8 +1,6 @@
 -- When a copy is owed over a scene's entries, and how many flips and copies are counted.
-use Rattle.std.specs.Prelude.{ℕ, ◌+◌, Bool, true, false, not, ◌&&◌, ◌||◌, if◌then◌else◌, List, [], ◌∷◌, Option, Some, None, is_some}
+use Rattle.std.specs.Prelude.{ℕ, ◌+◌, Bool, true, false, not, ◌&&◌, ◌||◌, if◌then◌else◌, List, [], ◌∷◌, Option, None, is_some}
 use Rattle.dri_base.specs.Scenes.{command_at}
-use Rattle.dri_base.specs.declared.command.Command.{Command}
-use Rattle.dri_base.specs.declared.command.Command.TheVariants.{Clear, Triangle, Swap}
 use Rattle.dri_base.specs.declared.journal.Entry.{Entry}
 use Rattle.dri_base.specs.declared.journal.Entry.TheVariants as Entry_is
 use Rattle.dri_base.specs.declared.scene.Scene.{Scene}
@@ -13,6 +11,7 @@ use Rattle.dri_core.specs.Solo.{is_clear, is_swap}
 use Rattle.dri_core.specs.Worlds.{World, clips_in, opening}
 use Rattle.dri_flip.specs.Places.{has_all, has_some}
 use Rattle.dri_model.specs.Stacks.{carried_from, repaint, without_owner}
+use Rattle.dri_replay.specs.Makings.{uses_clips}
 
 -- whether a copy is owed, and the flips and copies counted so far
 pub record Owing : Type 0 where
@@ -23,13 +22,6 @@ pub record Owing : Type 0 where
 -- nothing is owed, and nothing was counted
 abbrev pub nothing_owed : Owing
 nothing_owed = record { owed = false; flips = 0; copies = 0 }
-
--- the command is a clear, a triangle or a swap
-abbrev pub uses_clips : Option Command → Bool
-uses_clips (Some (Clear colour depth)) = true
-uses_clips (Some (Triangle t)) = true
-uses_clips (Some Swap) = true
-uses_clips _ = false
 
 -- a new stack, in which a window may be moved, carries a pixel to this place or paints it
 abbrev pub alters : Scene → World → Option ℕ → List Window → ℕ → ℕ → Bool

@@ -6,8 +6,8 @@ use Rattle.dri_base.specs.declared.scene.Scene.{Scene}
 use Rattle.dri_core.specs.FirstBad.{IsFirstBad}
 use Rattle.dri_core.specs.Runs.{HoldRun, after}
 use Rattle.dri_flip.specs.Owings.{owing}
-use Rattle.dri_flip.specs.declared.fault.ReplayFault.{ReplayFault}
-use Rattle.dri_flip.specs.declared.fault.ReplayFault.TheVariants as faults
+use Rattle.dri_replay.specs.declared.fault.ReplayFault.{ReplayFault}
+use Rattle.dri_replay.specs.declared.fault.ReplayFault.TheVariants as faults
 use Rattle.dri_flip.specs.declared.shown.Shown.{Shown}
 
 -- what is shown of a hold-run: the screen's front after it, and the flips and copies that are counted

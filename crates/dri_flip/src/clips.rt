@@ -2,7 +2,8 @@
 
 ghost use Rattle.std.specs.Prelude.{◌≡◌, Contains, IfOk};
 ghost use Rattle.dri_base.specs.Ranges.{client_numbers};
-ghost use Rattle.dri_flip.specs.Follows.{AreRectsOf, clips_now};
+ghost use Rattle.dri_flip.specs.Follows.{AreRectsOf};
+ghost use Rattle.dri_replay.specs.Makings.{clips_now};
 
 use dri_base::{ClipRect, OutOfMemory};
 use dri_clips::clip_rect;

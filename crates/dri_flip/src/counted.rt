@@ -8,11 +8,12 @@ ghost use Rattle.dri_base.specs.Texels.{given_image};
 ghost use Rattle.dri_base.specs.declared.colour.Pixel.{Pixel};
 ghost use Rattle.dri_base.specs.declared.colour.Rgb.{Rgb};
 ghost use Rattle.dri_flip.specs.Calls.{IsImage, OnlyDrawn, OnlyShown, cleared_in, drawn_in, fill, swapped_in, touch};
-ghost use Rattle.dri_flip.specs.Follows.{CanShow, IsScreen, carried_along, counted, has_change};
+ghost use Rattle.dri_flip.specs.Follows.{IsScreen, counted, has_change};
 ghost use Rattle.dri_flip.specs.Meanings.{Holds, IsOnCard, IsOpening, KeepSides, Shows};
 ghost use Rattle.dri_flip.specs.Owings.{flipped_where, nothing_owed, paid_where};
 ghost use Rattle.dri_clips.specs.Paints.{filled};
 ghost use Rattle.dri_plane.specs.Moves.{AreApart};
+ghost use Rattle.dri_replay.specs.Makings.{CanShow, carried_along};
 
 use crate::card::FlipCard;
 use crate::showing::{carry_along, paint};

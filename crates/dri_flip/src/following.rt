@@ -4,9 +4,10 @@
 ghost use Rattle.std.specs.Prelude.{◌<◌, ◌+◌, length, Contains, OnOk};
 ghost use Rattle.dri_base.specs.Limits.{word_end};
 ghost use Rattle.dri_base.specs.Ranges.{TriangleInRange, client_numbers};
-ghost use Rattle.dri_flip.specs.Follows.{IsAfter, IsFollowing, IsMade, MayMake};
+ghost use Rattle.dri_flip.specs.Follows.{IsAfter, IsFollowing, IsMade};
 ghost use Rattle.dri_flip.specs.Meanings.{HaveSides};
 ghost use Rattle.dri_journal.specs.declared.deed.Deed.TheVariants as Deed_is;
+ghost use Rattle.dri_replay.specs.Makings.{MayMake};
 
 use crate::clips::clips_of;
 use crate::counted::CountedCard;

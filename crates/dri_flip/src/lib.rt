@@ -5,7 +5,6 @@
 mod card;
 mod clips;
 mod counted;
-mod fault;
 mod following;
 mod regions;
 mod registers;
@@ -16,7 +15,7 @@ mod swapped;
 mod worked;
 
 pub use card::FlipCard;
-pub use fault::ReplayFault;
+pub use dri_replay::ReplayFault;
 pub use replay::replay_flip;
 pub use shown::Shown;
 pub use swapped::Swapped;

@@ -7,15 +7,14 @@ ghost use Rattle.dri_core.specs.FirstBad.{IsFirstBad};
 ghost use Rattle.dri_core.specs.Runs.{HoldRun};
 ghost use Rattle.dri_flip.specs.Follows.{IsAfter};
 ghost use Rattle.dri_flip.specs.Replays.{IsShown, Replays};
-ghost use Rattle.dri_flip.specs.declared.fault.ReplayFault.TheVariants as faults;
+ghost use Rattle.dri_replay.specs.declared.fault.ReplayFault.TheVariants as faults;
 
 use crate::counted::CountedCard;
-use crate::fault::ReplayFault;
 use crate::following::follow;
 use crate::shown::Shown;
-use dri_base::{Entry, OutOfMemory, Rgb, Scene, Sequence, Steps};
+use dri_base::{Entry, OutOfMemory, Scene, Steps};
 use dri_journal::{Replay, StepFault};
-use dri_meaning::{Picture, Pixels};
+use dri_replay::{ReplayFault, picture_of};
 use std::alloc::Global;
 use std::marker::Brand;
 use std::sync::ledger::{Blank, Ledger};
@@ -71,26 +70,10 @@ fn shown_by(alloc: Global, replay: &Replay<'_>, card: &CountedCard) -> Result<Sh
     ensures { IfOk result (IsShown replay.now.scene replay.now.entries) }
 {
     replay.entries();
-    let front = card.card.front();
-    let pixels = copied(alloc, front.pixels())?;
+    let picture = picture_of(alloc, card.card.front())?;
     Ok(Shown {
-        picture: Picture {
-            width: front.width(),
-            height: front.height(),
-            pixels,
-        },
+        picture,
         flips: card.flips,
         copies: card.copies,
     })
-}
-
-// The same colours once more.
-fn copied(alloc: Global, colours: &[Rgb]) -> Result<Pixels, OutOfMemory>
-    ensures { IfOk result (λ pixels. pixels ≡ colours.now) }
-{
-    let mut pixels = Sequence::new(alloc);
-    for colour in colours {
-        pixels.push(*colour)?;
-    }
-    Ok(pixels)
 }

@@ -5,8 +5,9 @@ ghost use Rattle.dri_base.specs.declared.colour.Pixel.{Pixel};
 ghost use Rattle.dri_base.specs.declared.colour.Rgb.{Rgb};
 ghost use Rattle.dri_clips.specs.Paints.{IsOnScreen, filled};
 ghost use Rattle.dri_flip.specs.Calls.{OnlyShown};
-ghost use Rattle.dri_flip.specs.Follows.{CanCarry, IsScreen, carried_along};
+ghost use Rattle.dri_flip.specs.Follows.{IsScreen};
 ghost use Rattle.dri_flip.specs.Meanings.{Holds, KeepSides, Shows};
+ghost use Rattle.dri_replay.specs.Makings.{CanCarry, carried_along};
 
 use crate::card::FlipCard;
 use dri_base::Steps;

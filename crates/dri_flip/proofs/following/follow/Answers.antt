@@ -1,6 +1,7 @@
 -- The entry is taken, and made on the card.
 use Rattle.std.proofs.Common.{arith}
-use Rattle.dri_flip.proofs.Followed.{few_copies, few_flips, follows, may, not_followed, sides}
+use Rattle.dri_flip.proofs.Followed.{few_copies, few_flips, follows, not_followed, sides}
+use Rattle.dri_replay.proofs.Lifted.{may}
 use Rattle.dri_flip.proofs.following.follow.Goals as goal
 
 pub returns-in-Err : goal.returns-in-Err

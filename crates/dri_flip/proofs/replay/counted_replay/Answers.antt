@@ -1,10 +1,14 @@
 -- One entry more, and all.
 use Rattle.std.proofs.Common.{arith}
-use Rattle.dri_flip.proofs.Followed.{all_shown, begun, few_taken, first_refused, one_taken}
+use Rattle.dri_flip.proofs.Followed.{all_shown, begun}
+use Rattle.dri_replay.proofs.Taken.{few_taken, first_refused, none_taken, one_taken}
 use Rattle.dri_flip.proofs.replay.counted_replay.Goals as goal
 
 pub loop-taken-init : goal.loop-taken-init
-loop-taken-init g c = let b = begun c.args.scene.now c.args.entries.now c.in_ok-replay.replay c.in_ok-card.card c.in_ok-replay.ensures c.in_ok-card.ensures.card c.in_ok-card.ensures.owes in record { are = b.0; follows = b.1 }
+loop-taken-init g c = record {
+  are = none_taken c.args.scene.now c.args.entries.now c.in_ok-replay.replay c.in_ok-replay.ensures;
+  follows = begun c.args.scene.now c.in_ok-replay.replay c.in_ok-card.card c.in_ok-replay.ensures c.in_ok-card.ensures.card c.in_ok-card.ensures.owes;
+}
 
 pub follow-requires-clause-few : goal.follow-requires-clause-few
 follow-requires-clause-few g c = few_taken c.args.scene.now c.args.entries.now c.loop-taken.taken c.loop-taken.replay c.loop-taken.invariant.are c.loop-taken-test.true c.requires.few

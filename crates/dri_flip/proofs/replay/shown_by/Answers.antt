@@ -7,6 +7,7 @@ use Rattle.dri_flip.proofs.replay.shown_by.Goals as goal
 
 pub returns : goal.returns
 returns c =
+    let is = c.in_ok-picture.ensures in
     shown_is c.args.replay.now c.args.card.now _ c.requires c.entries.ensures.run
-    (c.width.ensures.value ∙ ap (λ (f : Grid Rgb). f.width) c.front-front.ensures) (c.height.ensures.value ∙ ap (λ (f : Grid Rgb). f.height) c.front-front.ensures)
-    (c.in_ok-pixels.ensures ∙ c.pixels.ensures.value ∙ ap (λ (f : Grid Rgb). f.pixels) c.front-front.ensures) refl refl
+    (is.width ∙ ap (λ (f : Grid Rgb). f.width) c.front.ensures) (is.height ∙ ap (λ (f : Grid Rgb). f.height) c.front.ensures)
+    (is.pixels ∙ ap (λ (f : Grid Rgb). f.pixels) c.front.ensures) refl refl

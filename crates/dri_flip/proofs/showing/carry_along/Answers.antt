@@ -4,7 +4,7 @@ use Rattle.std.specs.Prelude.{◌&&◌}
 use Rattle.std.proofs.lemmas.Int.{to_z-of_z}
 use Rattle.dri_flip.specs.Calls.{touch}
 use Rattle.dri_flip.proofs.Changed.{rects_touch}
-use Rattle.dri_flip.proofs.Stacked.{stays_inside}
+use Rattle.dri_replay.proofs.Stacked.{stays_inside}
 use mir.Val.{SFits}
 use Rattle.dri_flip.proofs.showing.carry_along.Goals as goal
 

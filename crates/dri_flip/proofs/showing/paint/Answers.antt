@@ -2,7 +2,7 @@
 use Rattle.std.proofs.Common.{take, ◌+◌, arith, refl}
 use Rattle.dri_clips.specs.Paints.{filled}
 use Rattle.dri_flip.proofs.Painting.{no_paint, on_card, one_paint_owed, only_shown, painted_all, shows_same}
-use Rattle.dri_flip.proofs.Stacked.{filled_next}
+use Rattle.dri_replay.proofs.Stacked.{filled_next}
 use Rattle.dri_flip.proofs.showing.paint.Goals as goal
 
 pub loop-paint-init : goal.loop-paint-init

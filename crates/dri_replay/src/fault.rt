@@ -13,7 +13,7 @@ pub enum ReplayFault {
 
 impl From<OutOfMemory> for ReplayFault {
     ghost use Rattle.std.specs.Prelude.{◌≡◌};
-    ghost use Rattle.dri_flip.specs.declared.fault.ReplayFault.TheVariants as faults;
+    ghost use Rattle.dri_replay.specs.declared.fault.ReplayFault.TheVariants as faults;
 
     ghost from_gives = { λ _ e. e ≡ faults.OutOfMemory };
 

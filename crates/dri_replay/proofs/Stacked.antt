@@ -11,7 +11,7 @@ use Rattle.dri_clips.specs.Paints.{AreApart, ArePaints, IsCarried, StaysOnScreen
 use Rattle.dri_clips.specs.declared.touched.Carry.{Carry}
 use Rattle.dri_clips.specs.declared.touched.Paint.{Paint}
 use Rattle.dri_clips.specs.declared.touched.Touched.{Touched}
-use Rattle.dri_flip.specs.Follows.{CanCarry, CanShow, carried_along}
+use Rattle.dri_replay.specs.Makings.{CanCarry, CanShow, carried_along}
 use Rattle.dri_model.specs.Stacks.{carried, carried_from, is_displaced, painted, pixel_in, same_top, top}
 use Rattle.dri_model.proofs.Moves.{carry_is, carry_then_paint}
 use Rattle.dri_plane.specs.Moves.{StaysInside}

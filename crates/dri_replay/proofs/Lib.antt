@@ -1,0 +1,6 @@
+-- Paints one after the other, and what a new stack leaves
+pub mod Stacked
+-- What a deed makes of the planes is what its entry makes of the world
+pub mod Lifted
+-- The entries of a journal one after the other
+pub mod Taken
