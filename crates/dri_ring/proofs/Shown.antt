@@ -1,0 +1,43 @@
+-- What a new stack leaves on an idle engine's planes.
+use Rattle.std.proofs.Common.{◌≡◌, ◌≤◌, ◌<◌, ℕ, ℤ, List, [], ◌∷◌, length, take, slice_index_or, All, ◌∙◌, sym, ap, subst, arith}
+use Rattle.std.proofs.lemmas.Int.{ints}
+use Rattle.std.proofs.lemmas.List.{take_all}
+use Rattle.dri_base.specs.declared.colour.Rgb.{Rgb}
+use Rattle.dri_base.specs.declared.shape.ClipRect.{ClipRect}
+use Rattle.dri_card.specs.Drawing.{IsCarry}
+use Rattle.dri_clips.specs.Paints.{IsOnScreen, StaysOnScreen, filled}
+use Rattle.dri_clips.specs.declared.touched.Paint.{Paint}
+use Rattle.dri_plane.specs.Grids.{IsInside}
+use Rattle.dri_ring.specs.Rings.{OnlyCarried, OnlyShown, Ring, Shows}
+
+-- what stays on a screen doesn't go far
+pub goes_near : (dx dy : ℤ) (width height : ℕ) (rects : List ClipRect) → width ≤ 1024 → height ≤ 1024 → 0 < length rects → All (StaysOnScreen dx dy width height) rects → IsCarry dx × IsCarry dy
+goes_near dx dy width height [] wide high some each = absurd (omega arith)
+goes_near dx dy width height (r ∷ rects) wide high some each =
+    let at = each 0 r (omega arith) in
+    let on = at.before in (
+      (omega (arith, ints, wide, on.right, on.across, at.left), omega (arith, ints, wide, on.right, on.across, at.right)),
+      (omega (arith, ints, high, on.bottom, on.down, at.top), omega (arith, ints, high, on.bottom, on.down, at.bottom)),
+    )
+
+-- a paint of the screen lies on it
+pub paint_inside : (v w : Ring) (ps : List Paint) (i : ℕ) (d : Paint) → i < length ps → OnlyShown v w → All (λ p. IsOnScreen v.scene.width v.scene.height p.rect) ps → IsInside (slice_index_or ps i d).rect w.scene.width w.scene.height
+paint_inside v w ps i d lt only on =
+    let at = on i d lt in
+    rw (ap (λ (u : Ring). u.scene) only) (record { columns = omega (arith, at.across); right = at.right; rows = omega (arith, at.down); bottom = at.bottom })
+
+-- what stays, over two steps
+pub only_shown : (a b c : Ring) → OnlyShown a b → OnlyShown b c → OnlyShown a c
+only_shown a b c p q = q ∙ ap {A = Ring} (λ v. record v { front = c.front }) p
+
+pub carried_shown : (a b c : Ring) → OnlyCarried a b → OnlyShown b c → OnlyCarried a c
+carried_shown a b c p q =
+    let e : c ≡ record a { front = c.front; back = b.back; depth = b.depth } = q ∙ ap {A = Ring} (λ v. record v { front = c.front }) p in
+    e ∙ (λ i. record a { front = c.front; back = sym (ap {A = Ring} (λ v. v.back) q) i; depth = sym (ap {A = Ring} (λ v. v.depth) q) i })
+
+pub shows_same : (v : Ring) (f g : ℕ → ℕ → Rgb) → ((x y : ℕ) → f x y ≡ g x y) → Shows v f → Shows v g
+shows_same v f g e is = subst (Shows v) (λ i x y. e x y i) is
+
+-- all paints
+pub painted_all : (v : Ring) (ps : List Paint) (n : ℕ) (shown : ℕ → ℕ → Rgb) → length ps ≤ n → Shows v (filled (take n ps) shown) → Shows v (filled ps shown)
+painted_all v ps n shown le is = subst (λ qs. Shows v (filled qs shown)) (take_all n ps le) is
