@@ -9,13 +9,13 @@ use std::process::Abort;
 use std::sync::Arc;
 use std::test::Fail;
 
-const BLACK: Rgb = Rgb { r: 0, g: 0, b: 0 };
+pub(crate) const BLACK: Rgb = Rgb { r: 0, g: 0, b: 0 };
 
-const RED: Rgb = Rgb { r: 255, g: 0, b: 0 };
+pub(crate) const RED: Rgb = Rgb { r: 255, g: 0, b: 0 };
 
-const GREEN: Rgb = Rgb { r: 0, g: 255, b: 0 };
+pub(crate) const GREEN: Rgb = Rgb { r: 0, g: 255, b: 0 };
 
-const WHITE: Rgb = Rgb {
+pub(crate) const WHITE: Rgb = Rgb {
     r: 255,
     g: 255,
     b: 255,
@@ -159,7 +159,7 @@ const CASES: [Case; 9] = [
 const MOST_BYTES: usize = 4096;
 
 /// The scene of a text.
-fn scene(rt: &impl Abort, alloc: Global, parts: &[&str]) -> Result<Scene, Fail> {
+pub(crate) fn scene(rt: &impl Abort, alloc: Global, parts: &[&str]) -> Result<Scene, Fail> {
     let mut text = Vec::new(alloc);
     for part in parts {
         text.extend_from_slice(part.as_bytes())?;
@@ -191,7 +191,7 @@ fn play(
 }
 
 /// Compares pixels of the screen.
-fn shows(rt: &impl Abort, world: &World, pixels: &[(usize, Rgb)]) {
+pub(crate) fn shows(rt: &impl Abort, world: &World, pixels: &[(usize, Rgb)]) {
     for (at, colour) in pixels {
         assert!(rt; world.front().pixels().get(*at).copied() == Some(*colour));
     }
