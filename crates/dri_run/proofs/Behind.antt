@@ -1,11 +1,13 @@
 -- Where a scene's part ends, and on which line a journal is refused: within the bytes.
-use Rattle.std.proofs.Common.{◌≡◌, ℕ, ◌+◌, ◌≤◌, Bool, true, false, List, [], ◌∷◌, length, Result, Ok, Err, refl, arith, subst}
+use Rattle.std.proofs.Common.{◌≡◌, ℕ, ◌+◌, ◌≤◌, Bool, true, false, List, [], ◌∷◌, length, drop, Result, Ok, Err, refl, sym, ap, ◌∙◌, arith, subst}
 use Rattle.std.specs.Prelude.{if◌then◌else◌, codes, ◌==◌, IfErr, IfOk}
 use Rattle.std.specs.Str.{bytes_eq}
 use Rattle.dri_base.specs.declared.scene.Scene.{Scene}
 use Rattle.dri_journal.specs.Readings.{entries_from, entry_of, journal_of_text, titled_from}
 use Rattle.dri_scene.specs.Places.{is_end}
-use Rattle.dri_scene.specs.Readings.{after_bytes, begun, opening, part_of, up_to_done}
+use Rattle.dri_scene.specs.Readings.{Gives, after_bytes, begun, opening, part_of, up_to_done}
+use Rattle.dri_scene.specs.declared.fault.SceneFault.{SceneFault}
+use Rattle.dri_scene.specs.declared.fault.SceneFault.TheVariants as scene_faults
 use Rattle.dri_scene.specs.declared.part.Begun.{Begun}
 use Rattle.dri_scene.specs.declared.part.Part.{Part}
 use Rattle.dri_scene.specs.declared.reading.Reading.{Reading}
@@ -14,6 +16,7 @@ use Rattle.dri_words.specs.Parts.{is_nil, parts_at}
 use Rattle.dri_words.specs.declared.lines.Refusal.{Refusal}
 use Rattle.dri_words.specs.declared.reason.Reason.{Reason}
 use Rattle.dri_words.proofs.TextSizes.{text_size_split}
+use Rattle.dri_run.specs.Readings.{Spells, refusal, with_scene}
 
 -- lines that are some have a byte at least
 some_size : (lines : List (List ℕ)) → is_nil lines ≡ false → 1 ≤ text_size lines
@@ -82,6 +85,15 @@ part_within bytes =
 
 pub part_fits : (bytes : List ℕ) (scene : Scene) (p : Part) → part_of bytes ≡ Ok (scene, p) → IsPartOf bytes p
 part_fits bytes scene p is = subst (λ r. IfOk r (λ (read : Scene × Part). IsPartOf bytes read.1)) is (part_within bytes)
+
+-- what is made of a scene's part and of the bytes behind it
+pub behind_part : {A : Type 0} (rest : Scene → ℕ → List ℕ → Result A Refusal) (bytes text : List ℕ) (read : Scene × Part) → part_of bytes ≡ Ok read → text ≡ drop read.1.bytes bytes → with_scene rest bytes ≡ rest read.0 read.1.lines text
+behind_part rest bytes text read is same = ap (λ r. r >>= λ begun. rest begun.0 begun.1.lines (drop begun.1.bytes bytes)) is ∙ ap (rest read.0 read.1.lines) (sym same)
+
+-- the scene is refused
+pub part_refused : {A : Type 0} (rest : Scene → ℕ → List ℕ → Result A Refusal) (bytes : List ℕ) (fault : SceneFault) → Gives {A = Scene × Part} (Err fault) (part_of bytes) → Spells (Err (refusal fault)) (with_scene rest bytes)
+part_refused rest bytes (scene_faults.Refused line reason) is = ap (λ r. r >>= λ begun. rest begun.0 begun.1.lines (drop begun.1.bytes bytes)) is
+part_refused rest bytes scene_faults.OutOfMemory is = tt
 
 -- from line n on: the line that is refused is at most one behind the last
 abbrev IsLineWithin : ℕ → List (List ℕ) → Refusal → Type 0

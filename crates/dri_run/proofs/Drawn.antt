@@ -10,7 +10,8 @@ use Rattle.dri_words.specs.Lines.{◌>>=◌, at_line, ends, is_passed_over}
 use Rattle.dri_words.specs.Parts.{is_nil, parts_at}
 use Rattle.dri_words.specs.declared.reason.Reason.{Reason}
 use Rattle.dri_run.specs.FrameAlone.{DrawsAlone, HasNoImage, IsImageDecided, ReadsImage, answer_to_frame, frame_answer_to, frame_answer_to_text, has_frame}
-use Rattle.dri_run.specs.Outcome.{HasNoScene, IsDecided, IsTextOf, answer_to_text, most_text}
+use Rattle.dri_run.specs.Readings.{HasNone, IsDecided, IsTextOf, answer_to_text, most_text, scenes}
+use Rattle.dri_run.proofs.Texts.{read_answer, refused_answer}
 use Rattle.dri_run.specs.declared.status.Status.{Status}
 use Rattle.dri_run.specs.declared.status.Status.TheVariants as answers
 
@@ -62,7 +63,7 @@ no_line_zero : (bytes : List ℕ) (reason : Reason) → scene_of bytes ≡ Err (
 no_line_zero bytes reason is = let counted : 1 ≤ 0 = subst (λ r. IfErr r (IsFrom 1)) is (scene_line bytes) in omega (arith, counted)
 
 -- what has no scene has no picture
-pub no_image : (c k : ℕ) (status : Status) (given : List ℕ) (left : Option (List ℕ)) → HasNoScene status given left → HasNoImage c k status given left
+pub no_image : (c k : ℕ) (status : Status) (given : List ℕ) (left : Option (List ℕ)) → HasNone scenes status given left → HasNoImage c k status given left
 no_image c k (answers.Refused zero reason) given left none = absurd (no_line_zero given reason none.refused)
 no_image c k (answers.Refused (suc line) reason) given left none = none
 no_image c k (answers.NotARun entry) given left none = none
@@ -79,14 +80,14 @@ same_refusal c k status true read undone is = is
 same_refusal c k status false (Err refusal) undone is = is
 same_refusal c k status false (Ok scene) undone is = absurd (undone is)
 
-pub undrawn : (c k : ℕ) (status : Status) (given bytes : List ℕ) (left : Option (List ℕ)) → HasNoScene status given left → IsDecided (Err status) bytes → IsImageDecided c k (Err status) bytes
-undrawn c k status given bytes left none decided = elim decided as (λ _. IsImageDecided c k (Err status) bytes) [
-  | inl refused ↦ inl (same_refusal c k status (nat_lt most_text (length bytes)) (scene_of bytes) (λ done. subst (λ s. HasNoScene s given left) done none) refused)
+pub undrawn : (c k : ℕ) (status : Status) (given bytes : List ℕ) (left : Option (List ℕ)) → HasNone scenes status given left → IsDecided scenes (Err status) bytes → IsImageDecided c k (Err status) bytes
+undrawn c k status given bytes left none decided = elim (refused_answer scenes status bytes decided) as (λ _. IsImageDecided c k (Err status) bytes) [
+  | inl refused ↦ inl (same_refusal c k status (nat_lt most_text (length bytes)) (scene_of bytes) (λ done. subst (λ s. HasNone scenes s given left) done none) refused)
   | inr short ↦ inr short
 ]
 
 -- the scene of the bytes has the frame's picture, or hasn't the frame
-pub drawn_read : (c k : ℕ) (result : Result (List ℕ) Status) (scene : Scene) (given : List ℕ) (left : Option (List ℕ)) → IsTextOf scene given left → DrawsAlone c k result scene → ReadsImage c k result given left
+pub drawn_read : (c k : ℕ) (result : Result (List ℕ) Status) (scene : Scene) (given : List ℕ) (left : Option (List ℕ)) → IsTextOf scenes scene given left → DrawsAlone c k result scene → ReadsImage c k result given left
 drawn_read c k (Ok image) scene given left text drawn = record {
   read = text.read;
   is = record { scene = scene; spelled = text.spelled; in_range = text.in_range; there = drawn.0; alone = drawn.1 };
@@ -107,12 +108,12 @@ to_frame : (c k : ℕ) (scene : Scene) (long : Bool) (read : Result Scene Refusa
 to_frame c k scene true read is done = absurd (cc)
 to_frame c k scene false read is done = ap (frame_answer_to_text c k) is
 
-frame_answer : (c k : ℕ) (scene : Scene) (bytes : List ℕ) → IsDecided (Ok scene) bytes → frame_answer_to c k bytes ≡ answer_to_frame (has_frame c k scene)
-frame_answer c k scene bytes decided = to_frame c k scene (nat_lt most_text (length bytes)) (scene_of bytes) decided.0 decided.1
+frame_answer : (c k : ℕ) (scene : Scene) (bytes : List ℕ) → IsDecided scenes (Ok scene) bytes → frame_answer_to c k bytes ≡ answer_to_frame (has_frame c k scene)
+frame_answer c k scene bytes decided = to_frame c k scene (nat_lt most_text (length bytes)) (scene_of bytes) decided.1 (read_answer scenes scene bytes decided)
 
-pub drawn_decided : (c k : ℕ) (result : Result (List ℕ) Status) (scene : Scene) (bytes : List ℕ) → InRange scene → IsDecided (Ok scene) bytes → DrawsAlone c k result scene → IsImageDecided c k result bytes
+pub drawn_decided : (c k : ℕ) (result : Result (List ℕ) Status) (scene : Scene) (bytes : List ℕ) → InRange scene → IsDecided scenes (Ok scene) bytes → DrawsAlone c k result scene → IsImageDecided c k result bytes
 drawn_decided c k (Ok image) scene bytes in_range decided drawn =
-    (record { scene = scene; spelled = decided.0; in_range = in_range; there = drawn.0; alone = drawn.1 }, frame_answer c k scene bytes decided ∙ ap answer_to_frame drawn.0)
+    (record { scene = scene; spelled = decided.1; in_range = in_range; there = drawn.0; alone = drawn.1 }, frame_answer c k scene bytes decided ∙ ap answer_to_frame drawn.0)
 drawn_decided c k (Err (answers.Refused line reason)) scene bytes in_range decided missing =
     inl (ap (λ n. answers.Refused n reason) missing.0 ∙ ap (answers.Refused 0) missing.1 ∙ sym (frame_answer c k scene bytes decided ∙ ap answer_to_frame missing.2))
 drawn_decided c k (Err answers.OutOfMemory) scene bytes in_range decided short = inr refl

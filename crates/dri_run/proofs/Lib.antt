@@ -1,6 +1,7 @@
 -- What the calls share: a run of turns, what wasn't read, what comes of what was read
 pub mod Schedules
 pub mod Kept
+pub mod Texts
 pub mod Sayings
 -- Clients in threads
 pub mod Threading
@@ -10,6 +11,9 @@ mod Recorded
 mod Replaying
 mod Showing
 mod Flipping
+mod Ringing
+-- The word many
+mod Groups
 -- The word make
 mod FewEntries
 mod Making

@@ -1,5 +1,5 @@
 -- The journal's text stands behind the scene's part.
-use Rattle.std.proofs.Common.{◌≡◌, ℕ, ◌+◌, ◌<◌, ◌≤◌, ◌⊎◌, List, length, drop, Ok, Err, sym, ap, ◌∙◌, arith, subst, inl, inr, length-drop}
+use Rattle.std.proofs.Common.{◌≡◌, ℕ, ◌+◌, ◌<◌, ◌≤◌, List, length, drop, Ok, Err, ap, ◌∙◌, arith, subst, length-drop}
 use Rattle.dri_base.specs.Limits.{word_end}
 use Rattle.dri_base.specs.declared.journal.Entry.{Entry}
 use Rattle.dri_base.specs.declared.scene.Scene.{Scene}
@@ -10,28 +10,23 @@ use Rattle.dri_journal.specs.declared.fault.JournalFault.TheVariants as journal_
 use Rattle.dri_scene.specs.Readings.{part_of}
 use Rattle.dri_scene.specs.Readings as scenes
 use Rattle.dri_scene.specs.declared.fault.SceneFault.{SceneFault}
-use Rattle.dri_scene.specs.declared.fault.SceneFault.TheVariants as scene_faults
 use Rattle.dri_scene.specs.declared.part.Part.{Part}
 use Rattle.dri_words.specs.Lines.{◌>>=◌}
 use Rattle.dri_words.specs.declared.reason.Reason.{Reason}
-use Rattle.dri_run.proofs.Behind.{journal_line, part_fits}
-use Rattle.dri_run.specs.Outcome.{AreDecided, refusal}
-use Rattle.dri_run.specs.Recordings.{IsDecided, IsRefusalOf, Spells, behind, most, recording_of, refusal_behind, with_journal}
-use Rattle.dri_run.specs.declared.status.Status.{Status}
-use Rattle.dri_run.specs.declared.status.Status.TheVariants as answers
+use Rattle.dri_run.proofs.Behind.{behind_part, journal_line, part_fits, part_refused}
+use Rattle.dri_run.specs.Readings.{Spells, refusal}
+use Rattle.dri_run.specs.Recordings.{behind, recording_of, refusal_behind, with_journal}
 
 -- the scene is refused
 pub scene_refused : (bytes : List ℕ) (fault : SceneFault) → scenes.Gives {A = Scene × Part} (Err fault) (part_of bytes) → Spells (Err (refusal fault)) (recording_of bytes)
 unfolding recording_of
-scene_refused bytes (scene_faults.Refused line reason) is = ap (λ read. read >>= with_journal bytes) is
-scene_refused bytes scene_faults.OutOfMemory is = tt
+scene_refused bytes fault is = part_refused with_journal bytes fault is
 
 -- what is made of the journal's text
-pub journal_next : (bytes rest : List ℕ) (read : Scene × Part) → part_of bytes ≡ Ok read → rest ≡ drop read.1.bytes bytes →
-    recording_of bytes ≡ (behind read.1.lines (journal_of_text rest) >>= λ journal. Ok record { scene = read.0; journal = journal })
+journal_next : (bytes rest : List ℕ) (read : Scene × Part) → part_of bytes ≡ Ok read → rest ≡ drop read.1.bytes bytes →
+    recording_of bytes ≡ with_journal read.0 read.1.lines rest
 unfolding recording_of
-journal_next bytes rest read is same =
-    ap (λ r. r >>= with_journal bytes) is ∙ ap (λ text. behind read.1.lines (journal_of_text text) >>= λ journal. Ok record { scene = read.0; journal = journal }) (sym same)
+journal_next bytes rest read is same = behind_part with_journal bytes rest read is same
 
 -- scene and journal are there
 pub both_read : (bytes rest : List ℕ) (read : Scene × Part) (journal : List Entry) → part_of bytes ≡ Ok read → rest ≡ drop read.1.bytes bytes → journal_of_text rest ≡ Ok journal →
@@ -53,10 +48,3 @@ line_fits bytes rest read fault few is same refused line reason named =
     let part = part_fits bytes read.0 read.1 is in
     let there = subst (λ f. journals.Gives (Err f) (journal_of_text rest)) named refused in
     omega (arith, few, part.within, part.short, journal_line rest _ there, ap length same, length-drop read.1.bytes bytes)
-
--- bytes that weren't read whole
-pub unread : (status : Status) (bytes : List ℕ) → AreDecided most (Err status) bytes → IsDecided (Err status) bytes
-unread status bytes decided = elim decided as (λ _. IsRefusalOf status bytes ⊎ (status ≡ answers.OutOfMemory)) [
-  | inl long ↦ inl (subst (λ s. IsRefusalOf s bytes) (sym long.0) long.1)
-  | inr short ↦ inr short
-]

@@ -1,10 +1,10 @@
 -- A reading of a text and a run of what it spells make an answer.
 use Rattle.std.proofs.Common.{◌≡◌, ℕ, ◌⊎◌, List, Option, Ok, refl, sym, ◌∙◌, inl, inr}
-use Rattle.dri_base.specs.declared.scene.Scene.{Scene}
 use Rattle.dri_io.specs.Causes.{Rose}
-use Rattle.dri_scene.specs.Readings.{scene_of}
 use Rattle.dri_run.specs.Gains.{Sunk}
-use Rattle.dri_run.specs.Outcome.{AreTaken, IsDecided, Runs, SaysOf, answer_to}
+use Rattle.dri_run.proofs.Texts.{read_answer}
+use Rattle.dri_run.specs.Outcome.{AreTaken, Runs, SaysOf}
+use Rattle.dri_run.specs.Readings.{IsDecided, Kind, answer_to}
 use Rattle.dri_run.specs.declared.status.Status.{Status}
 use Rattle.dri_run.specs.declared.status.Status.TheVariants as answers
 
@@ -20,10 +20,11 @@ says_ran IsText HasNone Gives answers.TooLong input given left picture notes sho
 says_ran IsText HasNone Gives answers.ReadFault input given left picture notes short text wrong = absurd wrong
 says_ran IsText HasNone Gives (answers.NotARun entry) input given left picture notes short text wrong = absurd wrong
 
--- where the sinks take what the scene gives, the text decides the answer
-pub taken_ran : (Gives : Scene → List ℕ → List ℕ → Type 0) (status : Status) (scene : Scene) (bytes : List ℕ) (picture notes : ℕ → Type 0) → IsDecided (Ok scene) bytes → (AreTaken Gives picture notes scene → (status ≡ answers.Done) ⊎ (status ≡ answers.OutOfMemory)) → ((s : Scene) → scene_of bytes ≡ Ok s → AreTaken Gives picture notes s) → (status ≡ answer_to bytes) ⊎ (status ≡ answers.OutOfMemory)
-taken_ran Gives status scene bytes picture notes decided ran taken = elim (ran (taken scene decided.0)) as (λ _. (status ≡ answer_to bytes) ⊎ (status ≡ answers.OutOfMemory)) [
-  | inl done ↦ inl (done ∙ sym decided.1)
+-- where the sinks take what was read gives, the text decides the answer
+pub taken_ran : {A : Type 0} (kind : Kind A) (Gives : A → List ℕ → List ℕ → Type 0) (status : Status) (input : A) (bytes : List ℕ) (picture notes : ℕ → Type 0) → IsDecided kind (Ok input) bytes →
+    (AreTaken Gives picture notes input → (status ≡ answers.Done) ⊎ (status ≡ answers.OutOfMemory)) → ((x : A) → kind.spelled bytes ≡ Ok x → AreTaken Gives picture notes x) → (status ≡ answer_to kind bytes) ⊎ (status ≡ answers.OutOfMemory)
+taken_ran kind Gives status input bytes picture notes decided ran taken = elim (ran (taken input decided.1)) as (λ _. (status ≡ answer_to kind bytes) ⊎ (status ≡ answers.OutOfMemory)) [
+  | inl done ↦ inl (done ∙ sym (read_answer kind input bytes decided))
   | inr short ↦ inr short
 ]
 

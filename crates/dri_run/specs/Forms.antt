@@ -10,12 +10,19 @@ use Rattle.dri_words.specs.Parts.{parts_at}
 use Rattle.dri_words.specs.Ranges.{within}
 use Rattle.dri_words.specs.Words.{◌>>=◌, alone, number_at}
 use Rattle.dri_run.specs.declared.form.Form.{Form}
-use Rattle.dri_run.specs.declared.form.Form.TheVariants.{Scheduled, Replayed, Solo, Make}
-use Rattle.dri_run.specs.declared.form.Replaying.TheVariants.{Check, Flip}
+use Rattle.dri_run.specs.declared.form.Form.TheVariants.{Scheduled, Grouped, Replayed, Solo, Make}
+use Rattle.dri_run.specs.declared.form.Replaying.{Replaying}
+use Rattle.dri_run.specs.declared.form.Replaying.TheVariants.{Check, Flip, Ring}
 use Rattle.dri_run.specs.declared.form.Shown.TheVariants.{Turns, Sarea}
 
--- a scene is made of 1 to 32 clients
+-- a ring has room for 1 to 64 jobs
+abbrev pub IsReplayingRanged : Replaying → Type 0
+IsReplayingRanged (Ring room) = IsWithin 1 64 room
+IsReplayingRanged _ = Unit {0}
+
+-- and a scene is made of 1 to 32 clients
 abbrev pub IsFormRanged : Form → Type 0
+IsFormRanged (Replayed word) = IsReplayingRanged word
 IsFormRanged (Make n) = IsWithin 1 32 n
 IsFormRanged _ = Unit {0}
 
@@ -33,16 +40,22 @@ form_of_word word =
     else if bytes_eq word (codes "sarea") then Some (Scheduled Sarea)
     else if bytes_eq word (codes "check") then Some (Replayed Check)
     else if bytes_eq word (codes "flip") then Some (Replayed Flip)
+    else if bytes_eq word (codes "many") then Some Grouped
     else None
 
 -- a scene of so many clients is made
 abbrev pub make_form : List ℕ → Option Form
 make_form count = number_in 1 32 count >>= λ n. Some (Make n)
 
+-- a ring has room for so many jobs
+abbrev pub ring_form : List ℕ → Option Form
+ring_form count = number_in 1 64 count >>= λ n. Some (Replayed (Ring n))
+
 -- the form of a word with a number behind it
 abbrev pub counted_form : List ℕ → List ℕ → Option Form
 counted_form word count =
     if bytes_eq word (codes "make") then make_form count
+    else if bytes_eq word (codes "ring") then ring_form count
     else None
 
 -- a client and its frame; there are no more frames than commands

@@ -12,7 +12,7 @@ use Rattle.dri_model.specs.Stacks.{window_in}
 use Rattle.dri_ppm.specs.Ppm.{ppm}
 use Rattle.dri_scene.specs.Readings.{Refusal, scene_of}
 use Rattle.dri_words.specs.declared.reason.Reason.TheVariants as reasons
-use Rattle.dri_run.specs.Outcome.{HasNoScene, IsRead, IsTextOf, most_text}
+use Rattle.dri_run.specs.Readings.{HasNone, IsReadWithin, IsTextOf, most_text, scenes}
 use Rattle.dri_run.specs.declared.status.Status.{Status}
 use Rattle.dri_run.specs.declared.status.Status.TheVariants as answers
 
@@ -53,19 +53,19 @@ pub record IsImageOf (c k : ℕ) (image bytes : List ℕ) : Type 0 where
 
 -- the bytes were read whole, and have this picture
 pub record IsImageRead (c k : ℕ) (image given : List ℕ) (left : Option (List ℕ)) : Type 0 where
-  pub read : IsRead given left
+  pub read : IsReadWithin most_text given left
   pub is : IsImageOf c k image given
 
 -- the bytes were read whole, and are the text of a scene that hasn't the frame
 pub record IsFrameless (c k : ℕ) (given : List ℕ) (left : Option (List ℕ)) : Type 0 where
   pub scene : Scene
-  pub text : IsTextOf scene given left
+  pub text : IsTextOf scenes scene given left
   pub missing : has_frame c k scene ≡ false
 
 -- why the bytes that were given have no picture: line 0, which no text has, says that the frame isn't there
 abbrev pub HasNoImage : ℕ → ℕ → Status → List ℕ → Option (List ℕ) → Type 0
 HasNoImage c k (answers.Refused zero reason) given left = (reason ≡ reasons.Frame) × IsFrameless c k given left
-HasNoImage c k status given left = HasNoScene status given left
+HasNoImage c k status given left = HasNone scenes status given left
 
 -- the picture of the bytes that were given, or why they have none
 abbrev pub ReadsImage : ℕ → ℕ → Result (List ℕ) Status → List ℕ → Option (List ℕ) → Type 0

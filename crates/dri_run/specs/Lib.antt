@@ -1,13 +1,16 @@
 pub mod Notices
 pub mod Forms
 pub mod Gains
+pub mod Readings
 pub mod Outcome
 pub mod Recordings
 pub mod CheckedRun
 pub mod FlippedRun
+pub mod RingedRun
 pub mod Replays
 pub mod ScheduledRun
 pub mod ThreadedRun
+pub mod GroupedRun
 pub mod MadeScene
 pub mod FrameAlone
 pub mod FrameShown

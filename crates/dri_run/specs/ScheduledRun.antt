@@ -14,9 +14,8 @@ use Rattle.dri_ppm.specs.Ppm.{ppm}
 use Rattle.dri_run.specs.declared.form.Shown.{Shown}
 use Rattle.dri_run.specs.declared.form.Shown.TheVariants.{Turns, Sarea}
 
--- the run of a scene's schedule, and then of rounds until nothing is left to do
-pub record IsRunOf (scene : Scene) (events : List Event) : Type 0 where
-  pub turns : IsTurns scene events
+-- what holds of a run of the scene to its end
+pub record Holds (scene : Scene) (events : List Event) : Type 0 where
   -- no command changes a pixel outside its client's clips of that moment
   pub confined : ConfinedRun scene events
   -- each triangle is drawn with its own client's registers and texels
@@ -25,6 +24,11 @@ pub record IsRunOf (scene : Scene) (events : List Event) : Type 0 where
   pub solo_left : SoloLeftRun scene events
   -- nobody holds, every client is ended or dead, and all changes were made
   pub whole : Whole scene (journal_of events)
+
+-- the run of a scene's schedule, and then of rounds until nothing is left to do
+pub record IsRunOf (scene : Scene) (events : List Event) : Type 0 where
+  pub turns : IsTurns scene events
+  pub holds : Holds scene events
 
 -- what the picture gains: the screen in the P6 form, or the image of the shared area
 abbrev pub picture_of : Shown → Scene → List Event → List ℕ

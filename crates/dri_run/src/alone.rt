@@ -95,7 +95,7 @@ fn read_image<S: Source>(
     ensures decided { (bytes : List ℕ) → S.left input.old ≡ Some bytes
         → (S.gives_all input.old ⊎ (Rose (S.faults input.old) (S.faults input.new) → ⊥)) → IsImageDecided client frame result bytes }
 {
-    match read(alloc, input) {
+    match read::<Scene, S>(alloc, input) {
         Ok(scene) => image_of(alloc, &scene, client, frame),
         Err(status) => Err(status),
     }

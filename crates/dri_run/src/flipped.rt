@@ -11,7 +11,7 @@ use crate::pictured::pictured;
 use crate::recording::Recording;
 use crate::report::flip_line;
 use crate::writing::Output;
-use dri_flip::{ReplayFault, replay_flip};
+use dri_flip::replay_flip;
 use std::alloc::Global;
 
 /// The screen after a recording, and the line of its flips and copies. An `Err` is the status to end with.
@@ -20,11 +20,7 @@ pub fn flipped(alloc: Global, recording: &Recording) -> Result<Output, Status>
     requires few { length recording.now.journal < word_end }
     ensures { IsReplay Flip result recording.now }
 {
-    let shown = match replay_flip(alloc, &recording.scene, recording.journal.as_slice()) {
-        Ok(shown) => shown,
-        Err(ReplayFault::NotARun { entry }) => return Err(Status::NotARun { entry }),
-        Err(ReplayFault::OutOfMemory) => return Err(Status::OutOfMemory),
-    };
+    let shown = replay_flip(alloc, &recording.scene, recording.journal.as_slice())?;
     let line = flip_line(shown.flips, shown.copies);
     let output = pictured(alloc, &shown.picture, &line)?;
     Ok(output)

@@ -2,7 +2,7 @@
 
 ghost use Rattle.std.specs.Prelude.{◌≡◌, IfSome};
 ghost use Rattle.dri_base.specs.Ranges.{IsWithin};
-ghost use Rattle.dri_run.specs.Forms.{IsFormRanged, counted_form, form_of, form_of_word, is_run, make_form, number_in, solo_form};
+ghost use Rattle.dri_run.specs.Forms.{IsFormRanged, counted_form, form_of, form_of_word, is_run, make_form, number_in, ring_form, solo_form};
 
 use dri_words::{Parts, alone, number, within};
 
@@ -21,6 +21,9 @@ pub enum Shown {
     Sarea,
 }
 
+/// The most jobs that a ring has room for.
+const MOST_ROOM: u32 = 64;
+
 /// What is done with a recording: a scene and a journal.
 #[derive(Clone, Copy)]
 pub enum Replaying {
@@ -28,6 +31,8 @@ pub enum Replaying {
     Check,
     /// `flip`: the journal is drawn by a card that flips.
     Flip,
+    /// `ring N`: the journal is drawn through a ring with room for so many jobs, 1 to 64.
+    Ring { room: u32 },
 }
 
 /// What the words ask for.
@@ -35,6 +40,8 @@ pub enum Replaying {
 pub enum Form {
     /// A scene's run by its schedule.
     Scheduled(Shown),
+    /// `many`: a scene's run in groups, without its schedule.
+    Grouped,
     /// A recording's replay.
     Replayed(Replaying),
     /// `solo C K`: a client's frame, drawn alone. The client is 1 to 32, the frame 1 to 100,000.
@@ -66,6 +73,8 @@ fn form_of_word(word: &str) -> Option<Form>
         Some(Form::Replayed(Replaying::Check))
     } else if word == "flip" {
         Some(Form::Replayed(Replaying::Flip))
+    } else if word == "many" {
+        Some(Form::Grouped)
     } else {
         None
     }
@@ -80,6 +89,15 @@ fn make_form(count: &str) -> Option<Form>
     Some(Form::Make { clients })
 }
 
+/// What the word `ring` and a number behind it ask for.
+fn ring_form(count: &str) -> Option<Form>
+    ensures value { result ≡ ring_form count.now }
+    ensures bound { IfSome result IsFormRanged }
+{
+    let room = number_in(1, MOST_ROOM, count)?;
+    Some(Form::Replayed(Replaying::Ring { room }))
+}
+
 /// What a word and a number behind it ask for.
 fn counted_form(word: &str, count: &str) -> Option<Form>
     ensures value { result ≡ counted_form word.now count.now }
@@ -87,6 +105,8 @@ fn counted_form(word: &str, count: &str) -> Option<Form>
 {
     if word == "make" {
         make_form(count)
+    } else if word == "ring" {
+        ring_form(count)
     } else {
         None
     }

@@ -4,20 +4,31 @@
 ghost use Rattle.std.specs.Prelude.{◌≡◌, All, IfOk};
 ghost use Rattle.std.specs.Arc.{arc_value};
 ghost use Rattle.dri_base.specs.Ranges.{InRange};
+ghost use Rattle.dri_core.specs.Runs.{plain};
 ghost use Rattle.dri_journal.specs.Journals.{FitsWords, journal_text};
 ghost use Rattle.dri_ppm.specs.Ppm.{ppm};
 ghost use Rattle.dri_run.specs.ScheduledRun.{GivesByForm, IsRunOf, notes_of, picture_of};
 ghost use Rattle.dri_run.specs.declared.form.Shown.TheVariants.{Sarea};
 
 use crate::form::Shown;
+use crate::obeying::Running;
 use crate::writing::Output;
-use dri_base::{Bytes, Entry, OutOfMemory, Rgb, Scene};
+use dri_base::{Bytes, Entry, Items, OutOfMemory, Rgb, Scene};
 use dri_journal::print_journal;
 use dri_plane::Plane;
 use dri_ppm::ppm_bytes;
 use dri_world::World;
 use std::alloc::Global;
 use std::sync::Arc;
+
+/// The scene without its schedule.
+pub fn plain(alloc: Global, scene: Scene) -> Scene
+    ensures { result ≡ plain scene }
+{
+    let mut scene = scene;
+    scene.turns = Items::new(alloc);
+    scene
+}
 
 /// Runs a scene.
 pub fn run(alloc: Global, scene: &Arc<Scene, Global>) -> Result<World, OutOfMemory>
@@ -72,13 +83,15 @@ fn given(alloc: Global, shown: Shown, world: &World) -> Result<Output, OutOfMemo
     }
 }
 
-/// What is shown of a scene's run.
-pub fn output_of(alloc: Global, shown: Shown, scene: Scene) -> Result<Output, OutOfMemory>
-    requires { InRange scene }
-    ensures { IfOk result (λ o. GivesByForm shown scene o.picture o.notes) }
-{
-    let scene = Arc::new(alloc, scene)?;
-    let world = run(alloc, &scene)?;
-    let output = given(alloc, shown, &world)?;
-    Ok(output)
+impl Running for Shown {
+    type Input = Scene;
+
+    ghost gives = { λ shown scene image text. GivesByForm shown scene image text };
+
+    fn output_of(&self, alloc: Global, input: Scene) -> Result<Output, OutOfMemory> {
+        let scene = Arc::new(alloc, input)?;
+        let world = run(alloc, &scene)?;
+        let output = given(alloc, *self, &world)?;
+        Ok(output)
+    }
 }

@@ -6,6 +6,7 @@ ghost use Rattle.dri_base.specs.Limits.{word_end};
 ghost use Rattle.dri_base.specs.Ranges.{InRange};
 ghost use Rattle.dri_io.specs.Causes.{Rose};
 ghost use Rattle.dri_run.specs.Outcome.{AreTaken};
+ghost use Rattle.dri_run.specs.Forms.{IsReplayingRanged};
 ghost use Rattle.dri_run.specs.Recordings.{recording_of};
 ghost use Rattle.dri_run.specs.Replays.{GivesReplay, IsReplay, IsReplayAnswer, RunsReplay, SaysReplay};
 ghost use Rattle.dri_run.specs.declared.recording.Recording.{Recording};
@@ -14,20 +15,24 @@ use crate::Status;
 use crate::checked::report_of;
 use crate::flipped::flipped;
 use crate::form::Replaying;
-use crate::recording::{Recording, read_recording};
+use crate::reading::read;
+use crate::recording::Recording;
+use crate::ringed::ringed;
 use crate::writing::{Output, write_output};
 use dri_io::{Sink, Source};
 use std::alloc::Global;
 
 /// What a word makes of a recording. An `Err` is the status to end with.
-fn output_of(alloc: Global, word: Replaying, recording: &Recording) -> Result<Output, Status>
-    requires scene { InRange recording.now.scene }
-    requires few { length recording.now.journal < word_end }
-    ensures { IsReplay word result recording.now }
+fn output_of(alloc: Global, word: Replaying, recording: Recording) -> Result<Output, Status>
+    requires word { IsReplayingRanged word }
+    requires scene { InRange recording.scene }
+    requires few { length recording.journal < word_end }
+    ensures { IsReplay word result recording }
 {
     match word {
-        Replaying::Check => report_of(alloc, recording),
-        Replaying::Flip => flipped(alloc, recording),
+        Replaying::Check => report_of(alloc, &recording),
+        Replaying::Flip => flipped(alloc, &recording),
+        Replaying::Ring { room } => ringed(alloc, room, recording),
     }
 }
 
@@ -35,18 +40,19 @@ fn output_of(alloc: Global, word: Replaying, recording: &Recording) -> Result<Ou
 fn replay<P: Sink, N: Sink>(
     alloc: Global,
     word: Replaying,
-    recording: &Recording,
+    recording: Recording,
     picture: &mut P,
     notes: &mut N,
 ) -> Status
-    requires scene { InRange recording.now.scene }
-    requires few { length recording.now.journal < word_end }
-    ensures ran { RunsReplay word result recording.now
+    requires word { IsReplayingRanged word }
+    requires scene { InRange recording.scene }
+    requires few { length recording.journal < word_end }
+    ensures ran { RunsReplay word result recording
         (record { held = P.held picture.old; holds = P.held picture.new; before = P.faults picture.old; now = P.faults picture.new })
         (record { held = N.held notes.old; holds = N.held notes.new; before = N.faults notes.old; now = N.faults notes.new }) }
     ensures later { N.faults notes.old ≤ N.faults notes.new }
     ensures unwritten { result ≢ Status.Done → result ≢ Status.WriteFault → (picture.new ≡ picture.old) × (notes.new ≡ notes.old) }
-    ensures taken { AreTaken (GivesReplay word) (P.takes picture.old) (N.takes notes.old) recording.now → result ≢ Status.WriteFault }
+    ensures taken { AreTaken (GivesReplay word) (P.takes picture.old) (N.takes notes.old) recording → result ≢ Status.WriteFault }
 {
     match output_of(alloc, word, recording) {
         Ok(output) => write_output(&output, picture, notes),
@@ -62,6 +68,7 @@ pub fn obey_replay<S: Source, P: Sink, N: Sink>(
     picture: &mut P,
     notes: &mut N,
 ) -> Status
+    requires { IsReplayingRanged word }
     ensures says { (given : List ℕ) × Consumes (S.left input.old) (S.left input.new) given
         × SaysReplay word result given (S.left input.new)
         (record { held = P.held picture.old; holds = P.held picture.new; before = P.faults picture.old; now = P.faults picture.new })
@@ -78,8 +85,8 @@ pub fn obey_replay<S: Source, P: Sink, N: Sink>(
         → ((recording : Recording) → recording_of bytes ≡ Ok recording → AreTaken (GivesReplay word) (P.takes picture.old) (N.takes notes.old) recording)
         → IsReplayAnswer result bytes ⊎ (result ≡ Status.OutOfMemory) }
 {
-    match read_recording(alloc, input) {
-        Ok(recording) => replay(alloc, word, &recording, picture, notes),
+    match read::<Recording, S>(alloc, input) {
+        Ok(recording) => replay(alloc, word, recording, picture, notes),
         Err(status) => status,
     }
 }

@@ -1,10 +1,11 @@
-//! The lines that a replay gives: a report, all of it or the counts of its frames, and the counts of a card. A line is built in
+//! The lines that a replay gives: a report, all of it or the counts of its frames, and the counts of a card or of a ring. A line is built in
 //! a buffer of fixed size, so it takes no memory.
 
 ghost use Rattle.std.specs.Prelude.{◌≡◌, ◌≤◌, IfOk, length};
 ghost use Rattle.dri_run.specs.CheckedRun.{report_line, whole_word};
 ghost use Rattle.dri_run.specs.FlippedRun.{flip_line};
 ghost use Rattle.dri_run.specs.MadeScene.{frames_line};
+ghost use Rattle.dri_run.specs.RingedRun.{ring_line};
 
 use crate::notice::push_number;
 use arrayvec::ArrayString;
@@ -62,6 +63,21 @@ pub fn flip_line(flips: u32, copies: u32) -> ReportLine
     push_number(&mut line, flips);
     line.push_str(" copies ");
     push_number(&mut line, copies);
+    line.push_str("\n");
+    line
+}
+
+/// The line of the jobs that were put into a ring, of the waits until it was idle, and of the most that were pending.
+pub fn ring_line(puts: u32, idles: u32, most: u32) -> ReportLine
+    ensures { result.bytes ≡ ring_line puts idles most }
+{
+    let mut line = ReportLine::new();
+    line.push_str("puts ");
+    push_number(&mut line, puts);
+    line.push_str(" idles ");
+    push_number(&mut line, idles);
+    line.push_str(" most ");
+    push_number(&mut line, most);
     line.push_str("\n");
     line
 }

@@ -2,6 +2,7 @@ ghost use Rattle.std.specs.Prelude.{◌≡◌};
 ghost use Rattle.dri_run.specs.Notices.{code_of};
 
 use dri_base::OutOfMemory;
+use dri_replay::ReplayFault;
 use dri_words::Reason;
 
 /// How a top call ended.
@@ -50,5 +51,18 @@ impl From<OutOfMemory> for Status {
 
     fn from(_error: OutOfMemory) -> Status {
         Status::OutOfMemory
+    }
+}
+
+impl From<ReplayFault> for Status {
+    ghost use Rattle.dri_run.specs.Replays.{unreplayed};
+
+    ghost from_gives = { λ fault status. status ≡ unreplayed fault };
+
+    fn from(fault: ReplayFault) -> Status {
+        match fault {
+            ReplayFault::NotARun { entry } => Status::NotARun { entry },
+            ReplayFault::OutOfMemory => Status::OutOfMemory,
+        }
     }
 }

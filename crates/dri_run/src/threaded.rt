@@ -1,27 +1,17 @@
 //! What a scene's run in threads gives: its picture and its journal, which are those of the closed lock's value.
 
-ghost use Rattle.std.specs.Prelude.{◌≡◌, IfOk};
+ghost use Rattle.std.specs.Prelude.{IfOk};
 ghost use Rattle.dri_base.specs.Ranges.{InRange};
-ghost use Rattle.dri_core.specs.Runs.{plain};
 ghost use Rattle.dri_run.specs.ThreadedRun.{GivesInThreads};
 
-use crate::output::screen_of;
+use crate::output::{plain, screen_of};
 use crate::writing::Output;
-use dri_base::{Items, OutOfMemory, Scene};
+use dri_base::{OutOfMemory, Scene};
 use dri_core::plain_in_range;
 use dri_threads::{Gate, run_clients};
 use std::alloc::Global;
 use std::sync::{Arc, Wait};
 use std::thread::Threads;
-
-/// The scene without its schedule.
-fn plain(alloc: Global, scene: Scene) -> Scene
-    ensures { result ≡ plain scene }
-{
-    let mut scene = scene;
-    scene.turns = Items::new(alloc);
-    scene
-}
 
 /// What a scene's run in threads gives. It may wait.
 pub fn threaded_output_of<R: Threads + Wait + Sync, G: Gate + Sync>(

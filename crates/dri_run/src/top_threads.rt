@@ -5,7 +5,8 @@ ghost use Rattle.std.specs.Io.KnownBytes.{Consumes};
 ghost use Rattle.dri_io.specs.Causes.{Rose};
 ghost use Rattle.dri_run.specs.Gains.{GainsAll};
 ghost use Rattle.dri_run.specs.Notices.{line_of};
-ghost use Rattle.dri_run.specs.Outcome.{Answers, AreTaken, Runs, Says, answer_to};
+ghost use Rattle.dri_run.specs.Outcome.{Answers, AreTaken, Runs, Says};
+ghost use Rattle.dri_run.specs.Readings.{answer_to, scenes};
 ghost use Rattle.dri_run.specs.ThreadedRun.{GivesInThreads};
 ghost use Rattle.dri_scene.specs.Readings.{scene_of};
 ghost use Rattle.dri_base.specs.declared.scene.Scene.{Scene};
@@ -55,7 +56,7 @@ fn obey<R: Threads + Wait + Sync, G: Gate + Sync, S: Source, P: Sink, N: Sink>(
     notes: &mut N,
 ) -> Status
     ensures says { (given : List ℕ) × Consumes (S.left input.old) (S.left input.new) given
-        × Says GivesInThreads result given (S.left input.new)
+        × Says scenes GivesInThreads result given (S.left input.new)
         (record { held = P.held picture.old; holds = P.held picture.new; before = P.faults picture.old; now = P.faults picture.new })
         (record { held = N.held notes.old; holds = N.held notes.new; before = N.faults notes.old; now = N.faults notes.new }) }
     ensures later { N.faults notes.old ≤ N.faults notes.new }
@@ -64,13 +65,13 @@ fn obey<R: Threads + Wait + Sync, G: Gate + Sync, S: Source, P: Sink, N: Sink>(
     ensures decided { (bytes : List ℕ) → S.left input.old ≡ Some bytes
         → (Rose (S.faults input.old) (S.faults input.new) → ⊥) → (Rose (P.faults picture.old) (P.faults picture.new) → ⊥)
         → (Rose (N.faults notes.old) (N.faults notes.new) → ⊥)
-        → (result ≡ answer_to bytes) ⊎ (result ≡ Status.OutOfMemory) }
+        → (result ≡ answer_to scenes bytes) ⊎ (result ≡ Status.OutOfMemory) }
     ensures taken { (bytes : List ℕ) → S.left input.old ≡ Some bytes
         → (S.gives_all input.old ⊎ (Rose (S.faults input.old) (S.faults input.new) → ⊥))
         → ((scene : Scene) → scene_of bytes ≡ Ok scene → AreTaken GivesInThreads (P.takes picture.old) (N.takes notes.old) scene)
-        → (result ≡ answer_to bytes) ⊎ (result ≡ Status.OutOfMemory) }
+        → (result ≡ answer_to scenes bytes) ⊎ (result ≡ Status.OutOfMemory) }
 {
-    match read(alloc, input) {
+    match read::<Scene, S>(alloc, input) {
         Ok(scene) => run(rt, alloc, gate, scene, picture, notes),
         Err(status) => status,
     }
@@ -92,7 +93,7 @@ pub fn drive_run<R: Threads + Wait + Sync, G: Gate + Sync, S: Source, P: Sink, N
     // scene; the notes gained the text of a journal, which it determines, and the picture what the screen shows after
     // it; and of that journal the headline holds. The answers `Usage` and `NotARun` don't come.
     ensures answers { (given : List ℕ) × Consumes (S.left input.old) (S.left input.new) given
-        × Answers (Says GivesInThreads) result given (S.left input.new)
+        × Answers (Says scenes GivesInThreads) result given (S.left input.new)
         (record { held = P.held picture.old; holds = P.held picture.new; before = P.faults picture.old; now = P.faults picture.new })
         (record { held = N.held notes.old; holds = N.held notes.new; before = N.faults notes.old; now = N.faults notes.new }) }
     ensures unwritten { result ≢ Status.Done → result ≢ Status.WriteFault → picture.new ≡ picture.old }
@@ -104,13 +105,13 @@ pub fn drive_run<R: Threads + Wait + Sync, G: Gate + Sync, S: Source, P: Sink, N
     ensures decided { (bytes : List ℕ) → S.left input.old ≡ Some bytes
         → (Rose (S.faults input.old) (S.faults input.new) → ⊥) → (Rose (P.faults picture.old) (P.faults picture.new) → ⊥)
         → (Rose (N.faults notes.old) (N.faults notes.new) → ⊥)
-        → (result ≡ answer_to bytes) ⊎ (result ≡ Status.OutOfMemory) }
+        → (result ≡ answer_to scenes bytes) ⊎ (result ≡ Status.OutOfMemory) }
 
     // The same holds where the sinks take, without a fault, whatever a run of the scene gives.
     ensures taken { (bytes : List ℕ) → S.left input.old ≡ Some bytes
         → (S.gives_all input.old ⊎ (Rose (S.faults input.old) (S.faults input.new) → ⊥))
         → ((scene : Scene) → scene_of bytes ≡ Ok scene → AreTaken GivesInThreads (P.takes picture.old) (N.takes notes.old) scene)
-        → (result ≡ answer_to bytes) ⊎ (result ≡ Status.OutOfMemory) }
+        → (result ≡ answer_to scenes bytes) ⊎ (result ≡ Status.OutOfMemory) }
 
     // Where the notes take the status's line without a fault, they gain it whole and nothing else.
     ensures told { (n : ℕ) → length (line_of result) ≤ n → N.takes notes.old n → result ≢ Status.Done → result ≢ Status.WriteFault

@@ -40,6 +40,16 @@ const FRAMES_JOURNAL: &str =
 pub(crate) const WAITING: &str =
     "dri 1\nscreen 4 2 000000\nheap 1 256\nwindow 1 0 0 2 2 111111 1 up\nwindow 2 2 0 2 2 222222 2 up\nclient 1 1\nclear ff0000 65535\ntriangle 0 0 0 0000ffff 0 0 64 0 0 0000ffff 0 0 0 64 0 0000ffff 0 0\ntriangle 0 0 0 ffffffff 0 0 64 0 0 ffffffff 0 0 0 64 0 ffffffff 0 0\nswap\nend\nclient 2 2\nclear 00ff00 65535\nswap\nend\n";
 
+/// Two clients of one frame each, side by side.
+const PAIR: &str =
+    "dri 1\nscreen 2 1 000000\nheap 1 256\nwindow 1 0 0 1 1 111111 1 up\nwindow 2 1 0 1 1 222222 2 up\nclient 1 1\nclear ff0000 65535\nswap\nend\nclient 2 2\nclear 00ff00 65535\nswap\nend\nturns\n1\nend\ndone\n";
+
+const PAIR_PIXELS: &[u8] = b"P6\n2 1\n255\n\xff\x00\x00\x00\xff\x00";
+
+/// The journal where they are one group and the second is made current first.
+const PAIR_JOURNAL: &str =
+    "journal 1\nkernel 2 1\nstale 2\nleave 2\ninfo 2\nkernel 2 1\nrun 2 1\nrun 2 2\nleave 2\nkernel 1 3\nstale 1\nleave 1\ninfo 1\nkernel 1 1\nrun 1 1\nrun 1 2\nleave 1\ndone\n";
+
 const ROOT_PIXELS: &[u8] = b"P6\n1 1\n255\n\x00\x00\x40";
 
 pub(crate) const BLACK_PIXELS: &[u8] = b"P6\n2 1\n255\n\x00\x00\x00\x00\x00\x00";
@@ -76,10 +86,11 @@ const UNREAD: &str = "dri: read failed\n";
 
 const UNWRITTEN: &str = "dri: write failed\n";
 
-const USAGE: &str = "dri: usage: turns | run | solo C K | check | make N | sarea | flip\n";
+const USAGE: &str =
+    "dri: usage: turns | run | solo C K | check | make N | sarea | flip | ring N | many\n";
 
 /// Nothing is read for words of no form, so a source that fails isn't noticed.
-const CASES: [Case; 17] = [
+const CASES: [Case; 19] = [
     Case(PLAYED, &[ROOT], [1, 0, 0], 4, b"", UNREAD),
     Case(PLAYED, &[ROOT], [0, 2, 0], 5, b"P6\n1 1\n", UNWRITTEN),
     Case(
@@ -146,6 +157,22 @@ const CASES: [Case; 17] = [
         6,
         b"",
         "dri: not a run: entry 1\n",
+    ),
+    Case(
+        &["ring", "3"],
+        &[FRAMES, "done\n", FRAMES_JOURNAL],
+        [0, 0, 0],
+        0,
+        BLUE_PIXELS,
+        "puts 4 idles 0 most 3\n",
+    ),
+    Case(
+        &["many"],
+        &[PAIR, "many 1\ngroup 1 2\ncurrent 2\nend\ndone\n"],
+        [0, 0, 0],
+        0,
+        PAIR_PIXELS,
+        PAIR_JOURNAL,
     ),
     Case(ALONE, DRAWN, [0, 0, 0], 0, TRIANGLE_PIXELS, ""),
     Case(ALONE, DRAWN, [1, 0, 0], 4, b"", UNREAD),

@@ -5,9 +5,9 @@ use Rattle.dri_run.proofs.flipped.flipped.Goals as goal
 
 pub pictured-requires-clause-pixels : goal.pictured-requires-clause-pixels
 pictured-requires-clause-pixels c =
-    as_many c.args.recording.now c.in-Ok.shown.picture (flip_shows c.args.recording.now c.as_slice.result.now c.in-Ok.shown c.as_slice.ensures c.in-Ok.ensures.replays)
+    as_many c.args.recording.now c.in_ok-shown.shown.picture (flip_shows c.args.recording.now c.as_slice.result.now c.in_ok-shown.shown c.as_slice.ensures c.in_ok-shown.ensures.replays)
 
 pub returns : goal.returns
 returns c =
-    flip_gives c.args.recording.now c.as_slice.result.now c.in-Ok.shown c.in_ok-output.output.picture c.in_ok-output.output.notes c.flip_line-line.result.bytes c.as_slice.ensures c.in-Ok.ensures.replays
+    flip_gives c.args.recording.now c.as_slice.result.now c.in_ok-shown.shown c.in_ok-output.output.picture c.in_ok-output.output.notes c.flip_line-line.result.bytes c.as_slice.ensures c.in_ok-shown.ensures.replays
     c.in_ok-output.ensures.picture c.in_ok-output.ensures.notes c.flip_line-line.ensures

@@ -2,9 +2,10 @@
 use Rattle.dri_run.proofs.Behind.{part_fits}
 use Rattle.dri_run.proofs.Recorded.{both_read, journal_refused, line_fits, scene_refused}
 use Rattle.std.proofs.Common.{subst, sym}
-use Rattle.dri_run.specs.Recordings.{Spells, recording_of}
+use Rattle.dri_run.specs.Readings.{Spells}
+use Rattle.dri_run.specs.Recordings.{recording_of}
 use Rattle.std.specs.Prelude.{Err}
-use Rattle.dri_run.proofs.recording.recording_of.Goals as goal
+use Rattle.dri_run.proofs.recording.RecordingText.spelled.Goals as goal
 
 pub returns-in-Err-clause-value : goal.returns-in-Err-clause-value
 returns-in-Err-clause-value c = subst (λ status. Spells (Err status) (recording_of c.args.bytes.now)) (sym c.refusal.ensures) (scene_refused c.args.bytes.now c.in-Err.fault c.in-Err.ensures.value)
