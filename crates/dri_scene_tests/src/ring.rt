@@ -64,9 +64,10 @@ const COVERED: &[u8] =
 const COVERED_JOURNAL: &[u8] =
     b"journal 1\nkernel 1 1\nstale 1\nleave 1\ninfo 1\nkernel 1 1\nrun 1 1\nrun 1 2\nleave 1\nchange 1\nchange 2\nkernel 1 1\nstale 1\nleave 1\ninfo 1\nkernel 1 1\nrun 1 3\nleave 1\ndone\n";
 
-/// What is left of a journal of fewer than 4,294,967,294 bytes, in a ring with room for so many jobs.
+/// What is left of a journal, in a ring with room for so many jobs. Both texts have at most 4,294,967,294 bytes.
 fn ringed(alloc: Global, scene: &[u8], journal: &[u8], room: u32) -> Result<Ringed, Fail>
     requires room { IsWithin 1 64 room }
+    requires short { length scene.now ≤ 4294967294 }
     requires small { length journal.now ≤ 4294967294 }
 {
     let scene = Arc::new(alloc, read_scene(alloc, scene)?)?;
