@@ -9,7 +9,7 @@ pub mod Threading
 mod Behind
 mod Recorded
 mod Replaying
-mod Showing
+pub mod Showing
 mod Flipping
 mod Ringing
 -- The word many

@@ -51,7 +51,7 @@ pub enum Form {
 }
 
 /// The number from `low` to `high` that a word spells.
-fn number_in(low: u32, high: u32, word: &str) -> Option<u32>
+pub fn number_in(low: u32, high: u32, word: &str) -> Option<u32>
     ensures value { result ≡ number_in low high word.now }
     ensures bound { IfSome result (IsWithin low high) }
 {
