@@ -1,0 +1,2 @@
+-- What the checker does not find by itself
+mod Spelling

@@ -1,0 +1,5 @@
+pub mod Gathering
+pub mod Buffers
+pub mod Told
+pub mod Obeying
+pub mod Playing

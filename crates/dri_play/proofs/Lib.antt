@@ -1,0 +1,2 @@
+-- One item after another
+mod Taking
