@@ -1,0 +1,10 @@
+-- Colours in sixteen bits, and lines
+pub mod Packing
+pub mod Lines
+-- Any card's pixel rule: frames alone, and runs
+pub mod PixelRules
+pub mod RuleRuns
+-- The card of sixteen bits
+pub mod Sixteen
+-- Scenes that were worked by hand
+pub mod Examples
