@@ -46,3 +46,7 @@ pub with_append : (rule : PixelRule) (s : Scene) (w : World) (past rest : List E
     after_entries_with rule s w (past ++ rest) ≡ after_entries_with rule s (after_entries_with rule s w past) rest
 with_append rule s w [] rest = refl
 with_append rule s w (e ∷ past) rest = with_append rule s (after_entry_with rule s w e) past rest
+
+-- one entry more
+pub with_push : (rule : PixelRule) (s : Scene) (journal : List Entry) (e : Entry) → after_with rule s (journal ++ e ∷ []) ≡ after_entry_with rule s (after_with rule s journal) e
+with_push rule s journal e = with_append rule s (opening_with rule s) journal (e ∷ [])

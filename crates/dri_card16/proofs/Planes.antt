@@ -12,7 +12,7 @@ use Rattle.dri_base.specs.declared.command.Command.TheVariants.{Clear, Triangle}
 use Rattle.dri_base.specs.declared.journal.Entry.{Entry}
 use Rattle.dri_base.specs.declared.journal.Entry.TheVariants.{Change, Gone, Run}
 use Rattle.dri_base.specs.declared.scene.Scene.{Scene}
-use Rattle.dri_card16.proofs.Differing.{differ_after, with_append}
+use Rattle.dri_card16.proofs.Differing.{differ_after, with_push}
 use Rattle.dri_card16.specs.PixelRules.{KeepsForGood, PixelRule, drawn_at_with, drawn_with}
 use Rattle.dri_card16.specs.RuleRuns.{ConfinedWith, OwnWith, PlanesAreKept, after_entries_with, after_entry_with, after_with, back_with, opening_with}
 use Rattle.dri_core.specs.Frames.{across, down}
@@ -58,7 +58,7 @@ kept_after rule s journal keeps = kept_along rule s (opening_with rule s) journa
 
 -- the run of a command leaves what lies outside its client's clips
 pub confined : (rule : PixelRule) (s : Scene) (journal : List Entry) → KeepsForGood rule → ConfinedWith rule s journal
-confined rule s journal keeps past rest c i e = subst (SameOutside (clips_in s (after s past) c) w) (sym (with_append rule s (opening_with rule s) past (Run c i ∷ [])))
+confined rule s journal keeps past rest c i e = subst (SameOutside (clips_in s (after s past) c) w) (sym (with_push rule s past (Run c i)))
     (record { front = λ x y out. front x y (now x y ∙ out); back = λ x y out. rw (now x y ∙ out) refl })
   where
     w : World
@@ -74,6 +74,6 @@ confined rule s journal keeps past rest c i e = subst (SameOutside (clips_in s (
 
 -- a triangle is drawn with its client's own state and image
 pub own : (rule : PixelRule) (s : Scene) (journal : List Entry) → OwnWith rule s journal
-own rule s journal past rest c i x y t e is inside = ap (λ v. v.back x y) (with_append rule s (opening_with rule s) past (Run c i ∷ []))
+own rule s journal past rest c i x y t e is inside = ap (λ v. v.back x y) (with_push rule s past (Run c i))
     ∙ subst (λ v. (after_entry_with rule s v (Run c i)).back x y ≡ rule.triangle (rules_of (state_at (commands_of s c) i)) (image_at (script_of s c) i) t (across s (after s past) c x) (down s (after s past) c y) (v.back x y))
     (sym (differ_after rule s past)) (rw (inside, is) refl)

@@ -203,9 +203,13 @@ module _ (rule : PixelRule) (for_good : KeepsForGood rule) (s : Scene) (good : I
 -- each frame that stood is left alone in its clips
 pub solo_left : (rule : PixelRule) (s : Scene) (journal : List Entry) → KeepsForGood rule → IsWellFormed s → HoldRun s journal → SoloLeftWith rule s journal
 solo_left rule s journal for_good good run c k first last past middle later rest numbered e stands_middle stands_later noswap =
-    subst (ShowsWith rule s c k) (sym (with_append rule s (opening_with rule s) past (Run c first ∷ (middle ++ Run c last ∷ later)) ∙ ap (λ v. after_entries_with rule s v (Run c first ∷ (middle ++ Run c last ∷ later))) (differ_after rule s past) ∙ with_append rule s cleared_with middle (Run c last ∷ later)))
-    (shown_swapped rule for_good s good c first is.clear k last drawn.0 (after_entries_with rule s cleared_with middle) drawing later (differ_along rule s cleared_with cleared middle refl) inv_drawing (middle_run.1.0, later_run.0) stands_later noswap is.swap numbered drawn.1)
+    subst (ShowsWith rule s c k) (sym in_parts)
+    (shown_swapped rule for_good s good c first is.clear k last drawn.0 (after_entries_with rule s cleared_with middle) drawing later
+    (differ_along rule s cleared_with cleared middle refl) inv_drawing (middle_run.1.0, later_run.0) stands_later noswap is.swap numbered drawn.1)
   where
+    frame_on : List Entry
+    frame_on = Run c first ∷ (middle ++ Run c last ∷ later)
+
     is : IsFrame (commands_of s c) k first last
     is = is_frame (commands_of s c) k first last numbered
 
@@ -226,6 +230,12 @@ solo_left rule s journal for_good good run c k first last past middle later rest
 
     cleared_with : World
     cleared_with = after_entry_with rule s (over (after s past) shown under) (Run c first)
+
+    -- the run goes by its clear, and on to its swap
+    in_parts : after_with rule s (past ++ frame_on) ≡ after_entries_with rule s (after_entries_with rule s cleared_with middle) (Run c last ∷ later)
+    in_parts =
+        with_append rule s (opening_with rule s) past frame_on ∙ ap (λ v. after_entries_with rule s v frame_on) (differ_after rule s past)
+        ∙ with_append rule s cleared_with middle (Run c last ∷ later)
 
     inv_cleared : Sound s cleared
     inv_cleared = sound_kept s (after s past) (Run c first) good inv_past parts.1.0
