@@ -78,7 +78,7 @@ impl Surface for Target {
         painter: &mut P,
         steps: &mut Steps<L>,
     ) {
-        paint_row(
+        paint_row::<Rgb, P, L>(
             &mut self.back,
             &mut self.depth,
             y,

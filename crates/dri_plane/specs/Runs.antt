@@ -28,8 +28,8 @@ abbrev pub run_painted : (Pixel → Pixel) → (ℕ → Pixel → Option Pixel) 
 run_painted kept paint y left right f a b = if in_row y left right a b then left_by kept (paint a (f a b)) (f a b) else f a b
 
 -- the pairs after one place is painted
-abbrev pub place_painted : (ℕ → Pixel → Option Pixel) → ℕ → ℕ → (ℕ → ℕ → Pixel) → ℕ → ℕ → Pixel
-place_painted paint x y f a b = if is_place x y a b then left_by (λ p. p) (paint a (f a b)) (f a b) else f a b
+abbrev pub place_painted : (Pixel → Pixel) → (ℕ → Pixel → Option Pixel) → ℕ → ℕ → (ℕ → ℕ → Pixel) → ℕ → ℕ → Pixel
+place_painted kept paint x y f a b = if is_place x y a b then left_by kept (paint a (f a b)) (f a b) else f a b
 
 -- the accesses to the two planes that a place takes: both are read, and both are written where it is painted
 abbrev pub accesses : Option Pixel → ℕ

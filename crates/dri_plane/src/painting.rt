@@ -3,11 +3,13 @@
 
 ghost use Rattle.std.specs.Prelude.{◌≡◌, ◌≤◌, ◌<◌, ◌+◌, ◌-◌, ◌*◌, ℕ, Option, length};
 ghost use Rattle.dri_base.specs.declared.colour.Pixel.{Pixel};
+ghost use Rattle.dri_plane.specs.Formats.{pair_kept, shown_by};
 ghost use Rattle.dri_plane.specs.Runs.{HoldPairs, accesses, grid, place_painted, run_accesses, run_painted};
 
 use crate::counting::count;
+use crate::format::ColourFormat;
 use crate::plane::Plane;
-use dri_base::{Pixel, Rgb, Steps};
+use dri_base::{Pixel, Steps};
 use std::sync::ledger::Ledger;
 
 /// The accesses that read a pair, and those that write one.
@@ -50,20 +52,10 @@ fn place_of(width: usize, height: usize, x: u16, y: u16) -> usize
     usize::from(y) * width + usize::from(x)
 }
 
-/// Writes a colour channel by channel, so that none of them is shifted into a word first.
-#[inline(always)]
-fn set_colour(to: &mut Rgb, colour: Rgb)
-    ensures { to.new ≡ colour }
-{
-    to.r = colour.r;
-    to.g = colour.g;
-    to.b = colour.b;
-}
-
 /// Paints the place where the painter stands. It takes two steps where the pair stays, and four where it is painted.
 #[inline(always)]
-fn paint_place<P: Painter, L: Ledger>(
-    colours: &mut [Rgb],
+fn paint_place<F: ColourFormat, P: Painter, L: Ledger>(
+    colours: &mut [F::Kept],
     depths: &mut [u16],
     width: usize,
     height: usize,
@@ -80,18 +72,18 @@ fn paint_place<P: Painter, L: Ledger>(
     requires ready { P.ready painter.now x }
     ensures colours { length colours.new ≡ length colours.old }
     ensures depths { length depths.new ≡ length depths.old }
-    ensures pairs { (f : ℕ → ℕ → Pixel) → HoldPairs (grid width height colours.old) (grid width height depths.old) f → HoldPairs (grid width height colours.new) (grid width height depths.new) (place_painted (P.paints painter.now) x y f) }
-    ensures accesses { (f : ℕ → ℕ → Pixel) → HoldPairs (grid width height colours.old) (grid width height depths.old) f → steps.new ≡ steps.old + accesses (P.paints painter.now x (f x y)) }
+    ensures pairs { (f : ℕ → ℕ → Pixel) → HoldPairs (grid width height (F.all_shown colours.old)) (grid width height depths.old) f → HoldPairs (grid width height (F.all_shown colours.new)) (grid width height depths.new) (place_painted (pair_kept F.shown F.kept) (P.paints painter.now) x y f) }
+    ensures accesses { (f : ℕ → ℕ → Pixel) → HoldPairs (grid width height (F.all_shown colours.old)) (grid width height depths.old) f → steps.new ≡ steps.old + accesses (P.paints painter.now x (f x y)) }
     ensures cost { steps.new ≤ steps.old + 4 }
 {
     let place = place_of(width, height, x, y);
     let under = Pixel {
-        colour: colours[place],
+        colour: F::shown(colours[place]),
         depth: depths[place],
     };
     count(READS, steps);
     if let Some(pixel) = painter.paint(x, under) {
-        set_colour(&mut colours[place], pixel.colour);
+        F::keep(&mut colours[place], pixel.colour);
         depths[place] = pixel.depth;
         count(WRITES, steps);
     }
@@ -99,8 +91,8 @@ fn paint_place<P: Painter, L: Ledger>(
 
 /// Paints the places of row y from column `left` up to column `right`, where the painter ends.
 #[inline(always)]
-fn paint_run<P: Painter, L: Ledger>(
-    colours: &mut [Rgb],
+fn paint_run<F: ColourFormat, P: Painter, L: Ledger>(
+    colours: &mut [F::Kept],
     depths: &mut [u16],
     width: usize,
     height: usize,
@@ -120,23 +112,23 @@ fn paint_run<P: Painter, L: Ledger>(
     requires end { P.end painter.old ≡ right }
     ensures colours { length colours.new ≡ length colours.old }
     ensures depths { length depths.new ≡ length depths.old }
-    ensures pairs { (f : ℕ → ℕ → Pixel) → HoldPairs (grid width height colours.old) (grid width height depths.old) f → HoldPairs (grid width height colours.new) (grid width height depths.new) (run_painted (λ p. p) (P.paints painter.old) y left right f) }
-    ensures accesses { (f : ℕ → ℕ → Pixel) → HoldPairs (grid width height colours.old) (grid width height depths.old) f → steps.new ≡ steps.old + run_accesses (P.paints painter.old) y left (right - left) f }
+    ensures pairs { (f : ℕ → ℕ → Pixel) → HoldPairs (grid width height (F.all_shown colours.old)) (grid width height depths.old) f → HoldPairs (grid width height (F.all_shown colours.new)) (grid width height depths.new) (run_painted (pair_kept F.shown F.kept) (P.paints painter.old) y left right f) }
+    ensures accesses { (f : ℕ → ℕ → Pixel) → HoldPairs (grid width height (F.all_shown colours.old)) (grid width height depths.old) f → steps.new ≡ steps.old + run_accesses (P.paints painter.old) y left (right - left) f }
     ensures cost { steps.new ≤ steps.old + 4 * (right - left) }
 {
-    paint_place(colours, depths, width, height, left, y, painter, steps);
+    paint_place::<F, P, L>(colours, depths, width, height, left, y, painter, steps);
     for x in left + 1..right {
         painter.step(x - 1);
-        paint_place(colours, depths, width, height, x, y, painter, steps);
+        paint_place::<F, P, L>(colours, depths, width, height, x, y, painter, steps);
     }
 }
 
 /// Paints the places of row y from column `left` up to column `right`, where the painter ends, on a plane of colours and a plane
-/// of depths with the same sides. Each access to a pixel is a step: two a place are read, and two are written where the painter
+/// of depths with the same sides. A place shows what the format of the colours keeps. Each access to a pixel is a step: two a place are read, and two are written where the painter
 /// paints.
 #[inline(always)]
-pub fn paint_row<P: Painter, L: Ledger>(
-    colours: &mut Plane<Rgb>,
+pub fn paint_row<F: ColourFormat, P: Painter, L: Ledger>(
+    colours: &mut Plane<F::Kept>,
     depths: &mut Plane<u16>,
     y: u16,
     left: u16,
@@ -153,13 +145,13 @@ pub fn paint_row<P: Painter, L: Ledger>(
     requires end { P.end painter.old ≡ right }
     ensures colours { (colours.new.width ≡ colours.old.width) × (colours.new.height ≡ colours.old.height) }
     ensures depths { (depths.new.width ≡ depths.old.width) × (depths.new.height ≡ depths.old.height) }
-    ensures pairs { (f : ℕ → ℕ → Pixel) → HoldPairs colours.old depths.old f → HoldPairs colours.new depths.new (run_painted (λ p. p) (P.paints painter.old) y left right f) }
-    ensures accesses { (f : ℕ → ℕ → Pixel) → HoldPairs colours.old depths.old f → steps.new ≡ steps.old + run_accesses (P.paints painter.old) y left (right - left) f }
+    ensures pairs { (f : ℕ → ℕ → Pixel) → HoldPairs (shown_by F.all_shown colours.old) depths.old f → HoldPairs (shown_by F.all_shown colours.new) depths.new (run_painted (pair_kept F.shown F.kept) (P.paints painter.old) y left right f) }
+    ensures accesses { (f : ℕ → ℕ → Pixel) → HoldPairs (shown_by F.all_shown colours.old) depths.old f → steps.new ≡ steps.old + run_accesses (P.paints painter.old) y left (right - left) f }
     ensures cost { steps.new ≤ steps.old + 4 * (right - left) }
 {
     let width = colours.width as usize;
     let height = colours.height as usize;
-    paint_run(
+    paint_run::<F, P, L>(
         colours.pixels.as_mut_slice(),
         depths.pixels.as_mut_slice(),
         width,
