@@ -38,11 +38,11 @@ use std::sync::ledger::{Blank, Ledger};
 #[derive(Drop)]
 pub struct Card {
     front: Plane<Rgb>,
-    target: Target,
+    target: Target<Rgb>,
     registers: Registers,
     memory: Vec<u8>,
     clip: ClipRect,
-    lifts: Lifts,
+    lifts: Lifts<Rgb>,
 }
 
 impl Model for Card {

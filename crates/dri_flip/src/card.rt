@@ -36,9 +36,9 @@ use std::sync::ledger::{Blank, Ledger};
 #[derive(Drop)]
 pub struct FlipCard {
     front: Plane<Rgb>,
-    target: Target,
+    target: Target<Rgb>,
     owed: bool,
-    lifts: Lifts,
+    lifts: Lifts<Rgb>,
 }
 
 impl Model for FlipCard {

@@ -23,7 +23,7 @@ use std::sync::ledger::Ledger;
 
 /// Writes one pair into each place of the rectangles. It takes two steps a place.
 pub fn clear_all<L: Ledger>(
-    target: &mut Target,
+    target: &mut Target<Rgb>,
     rects: &[ClipRect],
     colour: Rgb,
     depth: u16,
@@ -43,7 +43,7 @@ pub fn clear_all<L: Ledger>(
 /// Draws a triangle by the registers and the memory, once at each place of the rectangles. It takes at most four steps a place
 /// whose pixel the triangle covers.
 pub fn draw_all<L: Ledger>(
-    target: &mut Target,
+    target: &mut Target<Rgb>,
     registers: &Registers,
     memory: &[u8],
     rects: &[ClipRect],

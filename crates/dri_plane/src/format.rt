@@ -19,6 +19,10 @@ pub trait ColourFormat {
     fn shown(place: Self::Kept) -> Rgb
         ensures { result ≡ shown place };
 
+    /// What is kept of a colour.
+    fn kept(colour: Rgb) -> Self::Kept
+        ensures { result ≡ kept colour };
+
     /// Writes a colour into a place.
     fn keep(place: &mut Self::Kept, colour: Rgb)
         ensures { place.new ≡ kept colour };
@@ -43,6 +47,11 @@ impl ColourFormat for Rgb {
     #[inline(always)]
     fn shown(place: Rgb) -> Rgb {
         place
+    }
+
+    #[inline(always)]
+    fn kept(colour: Rgb) -> Rgb {
+        colour
     }
 
     // Channel by channel, so that none of them is shifted into a word first.
