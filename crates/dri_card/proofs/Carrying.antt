@@ -19,7 +19,7 @@ use Rattle.dri_card.specs.declared.faults.OutsideCard.{OutsideCard}
 use Rattle.dri_card.specs.declared.faults.OutsideCard.TheVariants.{Clip}
 use Rattle.dri_card.specs.declared.lifts.Lifts.{Lifts}
 use Rattle.dri_card.specs.Contents.{Contents, HaveSides, empty_clip}
-use Rattle.dri_card.specs.Drawing.{IsFirstOff, StaysOnCard, carried_by, in_rects}
+use Rattle.dri_card.specs.Drawing.{IsFirstOut, carried_by, in_rects}
 use Rattle.dri_card.specs.Invariants.{FitTogether}
 use Rattle.dri_card.specs.Lifting.{HaveRoom}
 
@@ -97,10 +97,10 @@ pairs_carried back back' depth depth' rects dx dy f wide high wide' high' become
   depths = carried_shows depth depth' rects dx dy (λ x y. (f x y).depth) wide' high' deepens holds.depths ∙ plane_same depth'.width depth'.height _ _ (λ x y lx ly. part_carried (λ p. p.depth) (pixel_in (in_rects rects) (pos x -ℤ dx) (pos y -ℤ dy)) f (f x y));
 }
 
--- the first rectangle that doesn't stay on the card stands behind those that do
-pub first_off : (dx dy : ℤ) (v : Contents) (rects : List ClipRect) (i : ℕ) (outside : OutsideCard) → i < length rects → All (StaysOnCard dx dy v) (take i rects) → (StaysOnCard dx dy v (get_or rects i empty_clip) → ⊥)
-    → outside ≡ Clip (get_or rects i empty_clip) → IsFirstOff dx dy v rects outside
-first_off dx dy v rects i outside within stay off named = record {
+-- the first rectangle that doesn't stay on the screen stands behind those that do
+pub first_off : (dx dy : ℤ) (width height : ℕ) (rects : List ClipRect) (i : ℕ) (outside : OutsideCard) → i < length rects → All (StaysInside dx dy width height) (take i rects) → (StaysInside dx dy width height (get_or rects i empty_clip) → ⊥)
+    → outside ≡ Clip (get_or rects i empty_clip) → IsFirstOut dx dy width height rects outside
+first_off dx dy width height rects i outside within stay off named = record {
   before = take i rects;
   rect = get_or rects i empty_clip;
   after = drop (i + 1) rects;

@@ -76,15 +76,19 @@ IsCarry d = (neg_ℤ (pos 2048) ≤ℤ d) × (d ≤ℤ pos 2048)
 abbrev pub StaysOnCard : ℤ → ℤ → Contents → ClipRect → Type 0
 StaysOnCard dx dy v rect = StaysInside dx dy v.front.width v.front.height rect
 
--- the first rectangle that doesn't stay on the card is named
-pub record IsFirstOff (dx dy : ℤ) (v : Contents) (rects : List ClipRect) (outside : OutsideCard) : Type 0 where
+-- the first rectangle that doesn't stay on a screen with these sides is named
+pub record IsFirstOut (dx dy : ℤ) (width height : ℕ) (rects : List ClipRect) (outside : OutsideCard) : Type 0 where
   pub before : List ClipRect
   pub rect : ClipRect
   pub after : List ClipRect
   pub listed : rects ≡ before ++ rect ∷ after
-  pub stay : All (StaysOnCard dx dy v) before
-  pub off : StaysOnCard dx dy v rect → ⊥
+  pub stay : All (StaysInside dx dy width height) before
+  pub off : StaysInside dx dy width height rect → ⊥
   pub named : outside ≡ Clip rect
+
+-- and on the card
+abbrev pub IsFirstOff : ℤ → ℤ → Contents → List ClipRect → OutsideCard → Type 0
+IsFirstOff dx dy v rects outside = IsFirstOut dx dy v.front.width v.front.height rects outside
 
 -- nothing but front, back and depth differs
 abbrev pub OnlyCarried : Contents → Contents → Type 0

@@ -2,7 +2,7 @@
 //! wait while they are carried. What it keeps always fits together: the planes have the same sides, the clip lies on them,
 //! the bound image lies in the memory, and the lists have room for the pixels of the screen.
 
-ghost use Rattle.std.specs.Prelude.{◌≡◌, ◌≤◌, ◌+◌, ◌*◌, ℕ, length, All, AllPairs, None, OnOk, OnErr, IfOk, IfErr, IsOk, IsTrue, ◌↔◌, pos, ◌+ℤ◌, ◌≤ℤ◌};
+ghost use Rattle.std.specs.Prelude.{◌≡◌, ◌≤◌, ◌+◌, ◌*◌, ℕ, length, All, AllPairs, None, OnOk, OnErr, IfOk, IfErr, IsOk, ◌↔◌};
 ghost use Rattle.dri_base.specs.declared.colour.Pixel.{Pixel};
 ghost use Rattle.dri_base.specs.declared.colour.Rgb.{Rgb};
 ghost use Rattle.dri_base.specs.declared.shape.Triangle.{Triangle};
@@ -21,8 +21,9 @@ ghost use Rattle.dri_card.specs.declared.faults.OutsideCard.TheVariants.{Base, C
 
 use crate::faults::{DispatchFault, LoadFault, OutsideCard};
 use crate::lifts::Lifts;
-use crate::memory::{expect_within, write, zeros};
+use crate::memory::{expect_room, expect_within, write, zeros};
 use crate::opening::opening_front;
+use crate::screen::{expect_all_stay, expect_inside};
 use crate::target::Target;
 use dri_base::{ClipRect, OutOfMemory, Point, Registers, Rgb, Scene, State, Steps, Triangle};
 use dri_cmdbuf::{Buffer, Decoded, decode};
@@ -73,12 +74,7 @@ impl Card {
         ensures inside { IsOk result ↔ IsOnCard rect self.now }
         ensures outside { IfErr result (λ outside. outside ≡ Clip rect) }
     {
-        let columns = rect.x1 <= rect.x2 && u32::from(rect.x2) <= self.front.width();
-        let rows = rect.y1 <= rect.y2 && u32::from(rect.y2) <= self.front.height();
-        if columns && rows {
-            return Ok(());
-        }
-        Err(OutsideCard::Clip { rect })
+        expect_inside(rect, self.front.width(), self.front.height())
     }
 
     /// Loads registers: exactly where the words spell some and the image that is bound then lies in the texture memory.
@@ -232,14 +228,8 @@ impl Card {
         ensures outside { IfErr result (λ outside. outside ≡ Base base (length bytes.now)) }
         ensures err { OnErr result (self.new ≡ self.old) }
     {
-        let start = base as usize;
-        if self.memory.len() < start + bytes.len() {
-            return Err(OutsideCard::Base {
-                base,
-                len: bytes.len() as u32,
-            });
-        }
-        write(self.memory.as_mut_slice(), start, bytes);
+        expect_room(base, bytes.len(), self.memory.len())?;
+        write(self.memory.as_mut_slice(), base as usize, bytes);
         Ok(())
     }
 
@@ -265,22 +255,6 @@ impl Card {
         Ok(())
     }
 
-    // Refuses a rectangle that isn't on the card, or isn't once it is moved by (dx, dy).
-    fn expect_stays(&self, rect: ClipRect, dx: i32, dy: i32) -> Result<(), OutsideCard>
-        requires dx { IsCarry dx }
-        requires dy { IsCarry dy }
-        ensures stays { IsOk result ↔ StaysOnCard dx dy self.now rect }
-        ensures off { IfErr result (λ outside. outside ≡ Clip rect) }
-    {
-        self.expect_inside(rect)?;
-        let columns = stays_within(rect.x1, rect.x2, dx, self.front.width());
-        let rows = stays_within(rect.y1, rect.y2, dy, self.front.height());
-        if columns && rows {
-            return Ok(());
-        }
-        Err(OutsideCard::Clip { rect })
-    }
-
     // Refuses the first rectangle that doesn't stay on the card.
     fn expect_all_stay(&self, rects: &[ClipRect], dx: i32, dy: i32) -> Result<(), OutsideCard>
         requires dx { IsCarry dx }
@@ -288,10 +262,7 @@ impl Card {
         ensures stay { IsOk result ↔ All (StaysOnCard dx dy self.now) rects.now }
         ensures off { IfErr result (IsFirstOff dx dy self.now rects.now) }
     {
-        for rect in rects {
-            self.expect_stays(*rect, dx, dy)?;
-        }
-        Ok(())
+        expect_all_stay(rects, dx, dy, self.front.width(), self.front.height())
     }
 
     /// Carries the pixels of some rectangles by (dx, dy) in front, back and depth, exactly where each rectangle lies on the
@@ -351,15 +322,6 @@ impl Card {
     {
         &self.registers
     }
-}
-
-// A span from low up to high lies within a side of the card once it is moved.
-fn stays_within(low: u16, high: u16, by: i32, side: u32) -> bool
-    requires by { IsCarry by }
-    requires side { side ≤ 1024 }
-    ensures { IsTrue result ↔ ((pos 0 ≤ℤ (pos low +ℤ by)) × ((pos high +ℤ by) ≤ℤ pos side)) }
-{
-    0 <= i32::from(low) + by && i32::from(high) + by <= side as i32
 }
 
 // The registers of the default state, with nothing bound.

@@ -5,8 +5,9 @@
 mod card;
 mod faults;
 mod lifts;
-mod memory;
+pub mod memory;
 mod opening;
+pub mod screen;
 mod target;
 
 pub use card::Card;

@@ -1,11 +1,12 @@
-//! The texture memory: bytes that images are written into, and the test that an image lies in them.
+//! The texture memory: bytes that images are written into, and the tests that bytes end in it and that an image lies in it.
 
-ghost use Rattle.std.specs.Prelude.{◌≡◌, ◌≤◌, ◌<◌, ◌+◌, ℕ, length, replicate, get_or, IfOk, OnOk, IfErr};
+ghost use Rattle.std.specs.Prelude.{◌≡◌, ◌≤◌, ◌<◌, ◌+◌, ℕ, length, replicate, get_or, IfOk, OnOk, IfErr, IsOk, ◌↔◌};
 ghost use Rattle.dri_base.specs.Ranges.{IsWithin};
 ghost use Rattle.dri_model.specs.Heaps.{uploaded};
 ghost use Rattle.dri_model.specs.Words.{IsBoundInRange};
 ghost use Rattle.dri_card.specs.Loading.{IsImageWithin, PassesMemory, image_bytes};
 ghost use Rattle.dri_walk.specs.Samplings.{byte_in};
+ghost use Rattle.dri_card.specs.declared.faults.OutsideCard.TheVariants.{Base};
 
 use crate::faults::OutsideCard;
 use dri_base::{BoundTexture, OutOfMemory, TexFormat, TexShape};
@@ -16,6 +17,22 @@ pub fn zeros(alloc: Global, number: usize) -> Result<Vec<u8>, OutOfMemory>
     ensures { IfOk result (λ bytes. bytes.items ≡ replicate number 0) }
 {
     Ok(vec![in alloc; 0; number]?)
+}
+
+/// Refuses so many bytes from a base on exactly where they end beyond a texture memory of so many bytes. There are at most
+/// 4,294,967,295 of them.
+pub fn expect_room(base: u32, number: usize, bytes: usize) -> Result<(), OutsideCard>
+    requires { number ≤ 4294967295 }
+    ensures within { IsOk result ↔ (base + number ≤ bytes) }
+    ensures outside { IfErr result (λ outside. outside ≡ Base base number) }
+{
+    if bytes < base as usize + number {
+        return Err(OutsideCard::Base {
+            base,
+            len: number as u32,
+        });
+    }
+    Ok(())
 }
 
 /// Writes bytes over those of the memory, from a place on.
