@@ -11,8 +11,7 @@ use Rattle.dri_base.specs.declared.shape.Rect.{Rect}
 use Rattle.dri_rect.specs.declared.operation.Operation.{Operation}
 use Rattle.dri_rect.specs.declared.operation.Operation.TheVariants.{Unite, Subtract, Intersect}
 use Rattle.dri_rect.specs.Pixels.{In, in_columns, in_lines, inside, IsProper, Follows, IsBanded, IsTopped, IsCanonical, least, most}
-use Rattle.dri_rect.specs.Walk.{row, answer, Apart, FitsAcross, IsRow, Fits, Bounded, IsLesser, rectangle, IsCombined, both_empty, is_done, Split, Ends, AheadDown, ReachesDown, IsBands, StretchDown, LaterDown, placed, same_columns, settled, settled_row, settled_top, CutsBand, IsCut, Built, BandWalk, IsAnswer, begins, Added, Placing, joined, joined_start, lowered, IsLevel, IsRegion, Under, IsRest, IsTop, IsStart, Skipped, lesser_of, greater_of}
-use Rattle.dri_rect.proofs.Numbers.{low_first, low_second, high_first}
+use Rattle.dri_rect.specs.Walk.{row, answer, Apart, FitsAcross, IsRow, Fits, Bounded, IsLesser, rectangle, IsCombined, both_empty, is_done, Split, Ends, AheadDown, ReachesDown, IsBands, StretchDown, LaterDown, placed, same_columns, settled, settled_row, settled_top, CutsBand, IsCut, Built, BandWalk, IsAnswer, begins, Added, Placing, joined, joined_start, lowered, IsLevel, IsRegion, Under, IsRest, IsTop, IsStart, Skipped}
 use Rattle.dri_rect.proofs.Unique.{found, proper, each, one_band, unique}
 use Rattle.dri_rect.proofs.RowWalks.{all_weaker, all_append, row_further, row_smaller}
 use Rattle.dri_rect.proofs.Placed.{length_append, take_front, drop_front}
@@ -375,9 +374,6 @@ later_down_more r rs xs ys y i a l k = record {
     next [] b p = tt
     next (s ∷ ss) b p = omega (arith, ints, p.0, b.0.down)
 
-pub later_down_same : (rs : List Rect) (y : ℤ) → IsBands rs → AheadDown rs y → LaterDown rs rs y
-later_down_same rs y i a = record { is_bands = i; ahead = a; same = λ x z p. refl; part = λ r h. h }
-
 later_down_then : (a rs ts : List Rect) (y e : ℤ) → LaterDown a rs y → y ≤ℤ e → LaterDown rs ts e → LaterDown a ts e
 later_down_then a rs ts y e p l q = record { is_bands = q.is_bands; ahead = q.ahead; same = λ x z h. p.same x z (omega (arith, ints)) ∙ q.same x z h; part = λ r h. p.part r (q.part r h) }
 
@@ -398,36 +394,7 @@ top_some (q ∷ qs) r rest e i = let same : q ≡ r = cc in subst (λ (s : Rect)
     by d s (inl f) = omega (arith, ints, f.0)
     by d s (inr f) = omega (arith, ints, f, d)
 
-lesser_low : (n t u : ℤ) → n ≤ℤ t → n ≤ℤ u → n ≤ℤ lesser_of t u
-lesser_low n t u p q = grind (arith, ints)
-
-greater_high : (n t u : ℤ) → t ≤ℤ n → u ≤ℤ n → greater_of t u ≤ℤ n
-greater_high n t u p q = grind (arith, ints)
-
-greater_second : (t u z : ℤ) → z <ℤ greater_of t u → t ≤ℤ z → z <ℤ u
-greater_second t u z p q = grind (arith, ints)
-
-pub start_unite : (a b : List Rect) (t u m : ℤ) → IsTop a t → IsTop b u → m ≡ lesser_of t u → IsStart Unite a b m
-start_unite a b t u m i j e = rw e (record {
-  low = lesser_low least t u i.low j.low;
-  high = omega (arith, ints, low_first t u, i.high);
-  nothing = λ x z p. rw (i.above x z (omega (arith, ints, p, low_first t u)), j.above x z (omega (arith, ints, p, low_second t u))) refl;
-})
-
-pub start_subtract : (a b : List Rect) (t : ℤ) → IsTop a t → IsStart Subtract a b t
-start_subtract a b t i = record { low = i.low; high = i.high; nothing = λ x z p. rw (i.above x z p) refl }
-
-pub start_intersect : (a b : List Rect) (t u m : ℤ) → IsTop a t → IsTop b u → m ≡ greater_of t u → IsStart Intersect a b m
-start_intersect a b t u m i j e = rw e (record {
-  low = omega (arith, ints, high_first t u, i.low);
-  high = greater_high most t u i.high j.high;
-  nothing = λ x z p. by_lt_z z t (λ h. rw (i.above x z h) refl) (λ h. rw (j.above x z (greater_second t u z p h)) (and-false (inside a x z)));
-})
-
 -- bands that end above a line
-pub skip_none : (rs : List Rect) (y : ℤ) → IsBands rs → Skipped rs rs y
-skip_none rs y i = record { is_bands = i; same = λ x z p. refl; part = λ r h. h }
-
 pub skip_more : (rs ts : List Rect) (r : Rect) (rest : List Rect) (y : ℤ) → Skipped rs ts y → ts ≡ r ∷ rest → r.y2 ≤ℤ y → Skipped rs rest y
 skip_more rs [] r rest y s e l = cc
 skip_more rs (q ∷ qs) r rest y s e l = let same : q ≡ r = cc in let others : qs ≡ rest = cc in subst (λ (us : List Rect). Skipped rs us y) others (record {
@@ -438,14 +405,6 @@ skip_more rs (q ∷ qs) r rest y s e l = let same : q ≡ r = cc in let others :
   where
     gone : (q : Rect) (x z : ℤ) → q.y2 ≤ℤ y → y ≤ℤ z → (in_lines q z && in_columns q x) ≡ false
     gone q x z h p = let k : in_lines q z ≡ false = grind (arith, ints) in rw k refl
-
-pub skip_over : (rs ts : List Rect) (y : ℤ) → Skipped rs ts y → length ts ≡ 0 → LaterDown rs ts y
-skip_over rs [] y s n = record { is_bands = s.is_bands; ahead = tt; same = s.same; part = s.part }
-skip_over rs (t ∷ ts) y s n = absurd (omega (arith, n))
-
-pub skip_done : (rs ts : List Rect) (r : Rect) (rest : List Rect) (y : ℤ) → Skipped rs ts y → ts ≡ r ∷ rest → y <ℤ r.y2 → LaterDown rs ts y
-skip_done rs [] r rest y s e l = cc
-skip_done rs (q ∷ qs) r rest y s e l = let same : q ≡ r = cc in record { is_bands = s.is_bands; ahead = subst (λ (w : Rect). y <ℤ w.y2) (sym same) l; same = s.same; part = s.part }
 
 band_start : (op : Operation) (a b c d : List Rect) (y : ℤ) → IsStart op a b y → LaterDown a c y → LaterDown b d y → BandWalk op a b c d [] [] (y -ℤ pos 1) y
 band_start op a b c d y s k l = record {
@@ -545,15 +504,6 @@ pub cut_none : (rs : List Rect) → length rs ≡ 0 → IsCut rs rs rs
 cut_none [] none = record { whole = refl; cuts = refl }
 cut_none (r ∷ rs) none = absurd (omega (arith, none))
 
-pub cut_first : (r : Rect) (rs xs ys : List Rect) → Split (r ∷ rs) xs ys r.y1 → IsCut (r ∷ rs) xs ys
-cut_first r rs [] ys k = absurd (starts ys k.whole k.rest) where
-  starts : (ys : List Rect) → r ∷ rs ≡ ys → Ends ys r.y1 → ⊥
-  starts [] whole rest = cc
-  starts (y ∷ ys) whole rest = let same : r ≡ y = cc in rest (ap (λ (q : Rect). q.y1) (sym same))
-cut_first r rs (x ∷ xs) ys k = record { whole = k.whole; cuts = (subst (λ (t : ℤ). AllByRecursion (λ s. s.y1 ≡ t) (x ∷ xs)) top k.band, subst (λ (t : ℤ). Ends ys t) top k.rest) } where
-  top : r.y1 ≡ x.y1
-  top = sym k.band.0
-
 -- the first band split off, as the lemmas above have it
 split_of : (r : Rect) (rs below : List Rect) → CutsBand (r ∷ rs) below → Split (r ∷ (rs ++ below)) (r ∷ rs) below r.y1
 split_of r rs below k = record { whole = refl; band = k.0; rest = k.1 }
@@ -581,14 +531,6 @@ pass_more [] below r rest y next left is i k a l c = cc
 pass_more (q ∷ qs) below r rest y next left is i k a l c = let same : q ≡ r = cc in
     subst (λ (ts : List Rect). LaterDown (q ∷ (qs ++ below)) ts y) c.whole (later_down_more q (qs ++ below) (q ∷ qs) below y i a (subst (λ (s : Rect). s.y2 ≤ℤ y) (sym same) l) (split_of q qs below k))
 
-pub pass_none : (first below : List Rect) (y : ℤ) → length first ≡ 0 → IsBands (first ++ below) → CutsBand first below → LaterDown (first ++ below) (first ++ below) y
-pass_none [] below y none i k = later_down_same below y i (subst (λ (rs : List Rect). AheadDown rs y) (sym k) tt)
-pass_none (r ∷ rs) below y none i k = absurd (omega (arith, none))
-
-pub pass_same : (first below : List Rect) (r : Rect) (rest : List Rect) (y : ℤ) → first ≡ r ∷ rest → IsBands (first ++ below) → y <ℤ r.y2 → LaterDown (first ++ below) (first ++ below) y
-pass_same [] below r rest y is i l = cc
-pass_same (q ∷ qs) below r rest y is i l = let same : q ≡ r = cc in later_down_same (q ∷ (qs ++ below)) y i (subst (λ (s : Rect). y <ℤ s.y2) (sym same) l)
-
 -- the walk is over where no first band is left
 pub over_whole : (af ab bf bb : List Rect) → CutsBand af ab → CutsBand bf bb → both_empty af bf ≡ both_empty (af ++ ab) (bf ++ bb)
 over_whole [] ab [] bb k l = rw (k, l) refl
@@ -602,10 +544,6 @@ done_whole Subtract (r ∷ rs) ab bf bb k l = refl
 done_whole Intersect [] ab bf bb k l = rw k refl
 done_whole Intersect (r ∷ rs) ab [] bb k l = rw l refl
 done_whole Intersect (r ∷ rs) ab (s ∷ ss) bb k l = refl
-
-pub first_ahead : (first below : List Rect) (y : ℤ) → AheadDown (first ++ below) y → CutsBand first below → AheadDown first y
-first_ahead [] below y a k = tt
-first_ahead (r ∷ rs) below y a k = a
 
 pub first_reaches : (first below : List Rect) (y : ℤ) → ReachesDown (first ++ below) y → CutsBand first below → ReachesDown first y
 first_reaches [] below y a k = tt
@@ -780,14 +718,3 @@ placing_rest op a b first second items start y p k m d rest r = subst (λ (ts : 
 
     answer_of : Rested (whole ++ rest) (λ x z. answer op (inside a x z) (inside b x z)) → IsAnswer op a b (whole ++ rest)
     answer_of g = record { canonical = g.canonical; range = g.range; right = g.right }
-
--- the rest, as the code finds it
-pub rest_first : (af ab bf bb : List Rect) (r : Rect) (more : List Rect) (y : ℤ) → CutsBand bf bb → length bf ≡ 0 → af ≡ r ∷ more → y <ℤ r.y1 → IsRest (af ++ ab) (bf ++ bb) (af ++ ab) y
-rest_first af ab (s ∷ ss) bb r more y k n e l = absurd (omega (arith, n))
-rest_first [] ab [] bb r more y k n e l = cc
-rest_first (q ∷ qs) ab [] bb r more y k n e l = let same : q ≡ r = cc in inl (k, refl, subst (λ (s : Rect). y <ℤ s.y1) (sym same) l)
-
-pub rest_second : (af ab bf bb : List Rect) (r : Rect) (more : List Rect) (y : ℤ) → CutsBand af ab → length af ≡ 0 → bf ≡ r ∷ more → y <ℤ r.y1 → IsRest (af ++ ab) (bf ++ bb) (bf ++ bb) y
-rest_second (s ∷ ss) ab bf bb r more y k n e l = absurd (omega (arith, n))
-rest_second [] ab [] bb r more y k n e l = cc
-rest_second [] ab (q ∷ qs) bb r more y k n e l = let same : q ≡ r = cc in inr (k, refl, subst (λ (s : Rect). y <ℤ s.y1) (sym same) l)

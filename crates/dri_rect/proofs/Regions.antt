@@ -11,9 +11,6 @@ use Rattle.dri_rect.proofs.Unique.{found}
 use Rattle.dri_rect.specs.Pixels.{In, in_columns, in_lines, has_pixel, inside, IsInRange, IsProper, Follows, IsBanded, StaysInRange, SameLine, IsTopped, moved, shift}
 use Rattle.dri_rect.specs.Walk.{Fits, IsRegion, IsBands, rectangle, Movable}
 
-pub none_region : IsRegion []
-none_region = record { canonical = record { banded = tt; topped = λ r i. absurd i }; range = tt }
-
 pub bands : (rs : List Rect) → IsRegion rs → IsBands rs
 bands rs r = record { banded = r.canonical.banded; range = r.range }
 
@@ -50,9 +47,6 @@ pub one_pixels : (r : Rect) (x y : ℤ) → inside (r ∷ []) x y ≡ has_pixel 
 one_pixels r x y = or-false (has_pixel r x y)
 
 -- numbers in range, with and without a pixel
-pub range_fits : (r : Rect) → IsInRange r → Fits r
-range_fits r i = record { left = i.left.0; right = i.right.1; top = i.top.0; bottom = i.bottom.1 }
-
 pub fits_range : (r : Rect) → IsProper r → Fits r → IsInRange r
 fits_range r p f = record {
   left = (f.left, omega (arith, ints, p.across, f.right));
@@ -60,10 +54,6 @@ fits_range r p f = record {
   right = (omega (arith, ints, p.across, f.left), f.right);
   bottom = (omega (arith, ints, p.down, f.top), f.bottom);
 }
-
-pub all_range_fits : (rs : List Rect) → AllByRecursion IsInRange rs → AllByRecursion Fits rs
-all_range_fits [] a = tt
-all_range_fits (r ∷ rs) a = (range_fits r a.0, all_range_fits rs a.1)
 
 -- moved
 pub inside_moved : (dx dy : ℤ) (rs : List Rect) (x y : ℤ) → inside (moved dx dy rs) x y ≡ inside rs (x -ℤ dx) (y -ℤ dy)

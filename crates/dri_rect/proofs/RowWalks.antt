@@ -9,7 +9,7 @@ use Rattle.dri_base.specs.declared.shape.Rect.{Rect}
 use Rattle.dri_rect.specs.declared.operation.Operation.{Operation}
 use Rattle.dri_rect.specs.declared.operation.Operation.TheVariants.{Unite, Subtract, Intersect}
 use Rattle.dri_rect.specs.Pixels.{in_columns, least, most}
-use Rattle.dri_rect.specs.Walk.{row, answer, Apart, FitsAcross, IsRow, IsLesser, rectangle, lesser_of, columns, put, placed, Added, both_empty, is_done, IsLevel}
+use Rattle.dri_rect.specs.Walk.{row, answer, Apart, FitsAcross, IsRow, IsLesser, rectangle, columns, put, placed, Added, both_empty, is_done, IsLevel}
 
 pub all_weaker : (P Q : Rect → Type 0) (rs : List Rect) → ((r : Rect) → P r → Q r) → AllByRecursion P rs → AllByRecursion Q rs
 all_weaker P Q [] f a = tt
@@ -44,16 +44,6 @@ apart_push (r ∷ rs) s x a b l = (a.0, all_append (λ t. r.x2 <ℤ t.x1) rs (re
 -- what stays of a row behind its first rectangle
 pub rest_row : (r : Rect) (rs : List Rect) → IsRow (r ∷ rs) → IsRow rs
 rest_row r rs i = record { apart = i.apart.2; fits = i.fits.1 }
-
--- the lesser and the greater
-pub lesser_is : (a b : ℤ) → IsLesser a b (lesser_of a b)
-lesser_is a b = by_lt_z a b (λ h. low h) (λ h. high h)
-  where
-    low : a <ℤ b → IsLesser a b (lesser_of a b)
-    low h = let e : int_lt a b ≡ true = grind (arith, ints) in rw e (record { first = omega (arith, ints); second = omega (arith, ints); one = inl refl })
-
-    high : b ≤ℤ a → IsLesser a b (lesser_of a b)
-    high h = let e : int_lt a b ≡ false = grind (arith, ints) in rw e (record { first = omega (arith, ints); second = omega (arith, ints); one = inr refl })
 
 -- columns put last
 pub fits_columns : (a b : ℤ) → least ≤ℤ a → b ≤ℤ most → AllByRecursion FitsAcross (columns a b)

@@ -8,12 +8,6 @@ reciprocal_from m side most low =
     let all : m * side ≤ m * 256 = mul-le m side m 256 (omega arith) most in
     omega (arith, low, all)
 
--- nor large
-pub reciprocal_to : (m side : ℕ) → 1 ≤ side → m * side < 4294967296 + side → side ≤ 256 → m ≤ 4294967552
-reciprocal_to m side some high most =
-    let all : m * 1 ≤ m * side = mul-le m 1 m side (omega arith) some in
-    omega (arith, high, all, most)
-
 -- a rest e above 2^32
 over : (m side : ℕ) → 4294967296 ≤ m * side → m * side < 4294967296 + side → (e : ℕ) × (m * side ≡ 4294967296 + e) × (e < side)
 over m side low high = (m * side - 4294967296, omega (arith, low), omega (arith, low, high))
@@ -42,13 +36,6 @@ quotient_is n side m small some most low high =
     ap (λ k. k * m / 4294967296) (sym whole)
     ∙ ap (λ k. k / 4294967296) (product (n / side) (n % side) side m o.0 o.1)
     ∙ div-mul-add (n / side) 4294967296 ((n / side) * o.0 + (n % side) * m) (left_over (n / side) (n % side) side m o.0 some most q_small below o.2 o.1)
-
--- the reciprocal by division
-pub rounded_up : (side : ℕ) → 1 ≤ side → (4294967296 ≤ (4294967296 + side - 1) / side * side) × ((4294967296 + side - 1) / side * side < 4294967296 + side)
-rounded_up side some =
-    let whole : (4294967296 + side - 1) / side * side + (4294967296 + side - 1) % side ≡ 4294967296 + side - 1 = div-add-mod' (4294967296 + side - 1) side in
-    let below : (4294967296 + side - 1) % side < side = mod_below (4294967296 + side - 1) side (omega (arith, some)) in
-    (omega (arith, whole, below, some), omega (arith, whole, below, some))
 
 -- what is left of a number by a side
 pub rest_is : (n side m : ℕ) → n < 4096 → 1 ≤ side → side ≤ 256 → 4294967296 ≤ m * side → m * side < 4294967296 + side → (n * m / 4294967296 * side ≤ n) × (n - n * m / 4294967296 * side ≡ n % side)
