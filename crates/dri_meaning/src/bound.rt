@@ -1,25 +1,12 @@
 //! The texture that a state binds, looked up by its number among the client's own, and its texels.
 
 ghost use Rattle.std.specs.Prelude.{◌≡◌, All, IfSome, option_copied};
-ghost use Rattle.dri_base.specs.Texels.{given_image, texel, texture_bound, texture_in};
+ghost use Rattle.dri_base.specs.Texels.{given_image, texel, texture_bound};
 ghost use Rattle.dri_meaning.specs.Scripts.{HasTexels, image_of};
 
 use dri_base::{Rgb, Texture, Wrap};
+use dri_core::texture_in;
 use dri_texel::fetch;
-
-/// The texture of a number, where there is one.
-fn texture_in(textures: &[Texture], number: u32) -> Option<&Texture>
-    requires { All HasTexels textures.now }
-    ensures found { option_copied result ≡ texture_in textures.now number }
-    ensures whole { IfSome (option_copied result) HasTexels }
-{
-    for texture in textures {
-        if texture.number == number {
-            return Some(texture);
-        }
-    }
-    None
-}
 
 /// The texture that is bound, where there is one.
 pub fn texture_bound(textures: &[Texture], bound: Option<u32>) -> Option<&Texture>
