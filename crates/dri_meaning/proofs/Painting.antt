@@ -1,6 +1,6 @@
 -- Places of a window's surface that are painted along a row, and what a triangle makes of all of them.
-use Rattle.std.proofs.Common.{◌≡◌, ℕ, ◌+◌, ◌<◌, ◌≤◌, Bool, true, false, ◌&&◌, ◌==◌, if◌then◌else◌, List, Option, Some, None, pos, length, map, get_or, refl, sym, ap, ◌∙◌, arith}
-use Rattle.std.specs.Prelude.{◌-ℤ◌, IfSome}
+use Rattle.std.proofs.Common.{◌≡◌, ℕ, ◌+◌, ◌<◌, ◌≤◌, Bool, true, false, ◌&&◌, ◌==◌, if◌then◌else◌, List, Option, Some, None, pos, map, get_or, refl, sym, ap, ◌∙◌, arith}
+use Rattle.std.specs.Prelude.{◌-ℤ◌}
 use Rattle.std.proofs.lemmas.Bool.Decides.{nat_tests}
 use Rattle.std.proofs.lemmas.Bool.{eqb-true}
 use Rattle.std.proofs.lemmas.Int.{ints}
@@ -22,13 +22,13 @@ use Rattle.dri_base.specs.Scenes.{bytes_of}
 use Rattle.dri_base.specs.States.{default_state, state_after, state_at, states}
 use Rattle.dri_base.specs.Texels.{given_image}
 use Rattle.dri_base.proofs.PlaneLists.{plane_at, plane_same}
-use Rattle.dri_model.specs.Words.{IsBoundInRange, IsScissorInRange, card_image, rules_in}
+use Rattle.dri_model.specs.Words.{IsScissorInRange, card_image, rules_in}
 use Rattle.dri_plane.specs.Grids.{Becomes, Grid, is_place}
 use Rattle.dri_walk.specs.Drawings.{after_drawing}
-use Rattle.dri_walk.specs.Samplings.{IsImageWithin, byte_in}
+use Rattle.dri_walk.specs.Samplings.{byte_in}
 use Rattle.dri_walk.specs.Surfaces.{in_row, left_by, run_painted}
 use Rattle.dri_meaning.specs.Canvases.{HasPairs, bound_first, pairs_alike, registers_alone}
-use Rattle.dri_meaning.specs.Scripts.{HasTexels, ScriptInRange}
+use Rattle.dri_meaning.specs.Scripts.{ScriptInRange}
 use Rattle.dri_meaning.proofs.SoloPixels.{mapped_plane}
 use Rattle.std.proofs.lemmas.List.Elements.{All-head, All-tail, All-take}
 use Rattle.std.specs.Prelude.{All, pred, take, [], ◌∷◌}
@@ -117,15 +117,6 @@ image_found None = refl
 image_found (Some t) = λ i. Some (record { shape = t.shape; byte = λ n. get_or t.bytes (first n i) 0 }) where
   first : (n : ℕ) → 0 + n ≡ n
   first n = omega arith
-
--- it lies in the memory, and its sides are in range
-pub image_within : (texture : Option Texture) → IfSome texture HasTexels → IsImageWithin (length (bytes_of texture)) (bound_first texture)
-image_within None whole = tt
-image_within (Some t) whole = omega (arith, whole.whole)
-
-pub bound_ranged : (texture : Option Texture) → IfSome texture HasTexels → IsBoundInRange (bound_first texture)
-bound_ranged None whole = tt
-bound_ranged (Some t) whole = (whole.wide, whole.high)
 
 -- the pixel of the window is that of its surface
 same_place : (n : ℕ) → (pos n -ℤ pos 0) ≡ pos n
