@@ -9,7 +9,7 @@ use Rattle.dri_base.specs.declared.scene.ClientScript.{ClientScript}
 use Rattle.dri_base.specs.declared.scene.Scene.{Scene}
 use Rattle.dri_core.specs.Effects.{heap_placed, placed_by, placed_with, spot_for}
 use Rattle.dri_core.specs.EntryTable.{LegalEntry, after_entry, is_start_for}
-use Rattle.dri_core.specs.Privates.{Private, blocks_needed, is_small, placed_after, room_in, size_of}
+use Rattle.dri_core.specs.Privates.{Private, blocks_needed, is_small, placed_after, room_by, room_in, size_of}
 use Rattle.dri_core.specs.Runs.{Intact, IsCurrent}
 use Rattle.dri_core.specs.Worlds.{World}
 use Rattle.dri_model.specs.Counting.{any_from}
@@ -95,13 +95,9 @@ room_is_for size script p t spot e = by (is_small_for size (bytes_in script t)) 
         no_spot : None ≡ Some spot → ⊥
         no_spot e = grind arith
 
--- the room for texture t of a script above these levels
-abbrev room_by : ℕ → ℕ → ClientScript → (ℕ → Option ℕ) → Option Spot
-room_by t size script levels = if is_small_for size (bytes_in script t) then room_for size levels (blocks_for (bytes_in script t)) else None
-
 -- the room of a part is the one that the world has for it
 pub room_is_same : (s : Scene) (w : World) (c : ℕ) (p : PartState) (script : ClientScript) (t : ℕ) → script ≡ script_of s c → s.region_size ≡ p.placed.region_size → Agrees p (w.client c) → room_of p.placed.region_size script p t ≡ room_in s c (w.client c) t
-room_is_same s w c p script t own sized agrees = λ i. room_by t (sym sized i) (own i) (ap (λ (x : Private). x.levels) agrees i)
+room_is_same s w c p script t own sized agrees = λ i. room_by (sym sized i) (ap (λ (x : Private). x.levels) agrees i) (bytes_in (own i) t)
 
 module _ (s : Scene) (w : World) (c : ℕ) (p l n : PartState) (script : ClientScript) (regions : RegionState) (t : ℕ) (run : Run) (blocks : ℕ)
     (own : script ≡ script_of s c) (sized : s.region_size ≡ p.placed.region_size) (agrees : Agrees p (w.client c)) (last : n ≡ record l { dirty = with_bound true l.dirty }) (takes : blocks ≡ blocks_of p.placed.region_size script t)

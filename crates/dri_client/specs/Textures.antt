@@ -5,9 +5,9 @@ use Rattle.dri_base.specs.declared.texture.Texture.{Texture}
 use Rattle.dri_base.specs.Texels.{texture_in}
 use Rattle.dri_base.specs.Scenes.{bytes_of}
 use Rattle.dri_base.specs.declared.scene.ClientScript.{ClientScript}
-use Rattle.dri_core.specs.Privates.{run_in, spot_of, textured_with}
+use Rattle.dri_core.specs.Privates.{room_by, run_in, spot_of, textured_with}
 use Rattle.dri_model.specs.Heaps.{Heap, Run, Spot}
-use Rattle.dri_model.specs.Shares.{blocks_for, is_small_for, room_for}
+use Rattle.dri_model.specs.Shares.{blocks_for, is_small_for}
 use Rattle.dri_texheap.specs.Placements.{levels_of, placed_of}
 use Rattle.dri_client.specs.Parts.{PartState}
 
@@ -44,9 +44,9 @@ bytes_in script t = length (bytes_of (texture_in script.textures t))
 abbrev pub blocks_of : ℕ → ClientScript → ℕ → ℕ
 blocks_of size script t = if is_small_for size (bytes_in script t) then blocks_for (bytes_in script t) else 0
 
--- the room for it in a part's shared regions: only for a small one
+-- the room for it in a part's shared regions
 abbrev pub room_of : ℕ → ClientScript → PartState → ℕ → Option Spot
-room_of size script p t = if is_small_for size (bytes_in script t) then room_for size (levels_of p.placed) (blocks_for (bytes_in script t)) else None
+room_of size script p t = room_by size (levels_of p.placed) (bytes_in script t)
 
 -- the age up to which a client knows the regions of this heap, where it has used some of them, and else the age that it knew
 abbrev pub age_known : Heap → ℕ → Bool → ℕ

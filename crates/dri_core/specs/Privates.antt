@@ -151,6 +151,10 @@ is_small s c t = is_small_for s.region_size (size_of s c t)
 abbrev pub blocks_needed : Scene → ℕ → ℕ → ℕ
 blocks_needed s c t = blocks_for (size_of s c t)
 
--- where there is room for texture t in client c's shared regions: only for a small one
+-- where there is room for a texture of so many bytes in shared regions of a size, above their levels: only for a small one
+abbrev pub room_by : ℕ → (ℕ → Option ℕ) → ℕ → Option Spot
+room_by size levels bytes = if is_small_for size bytes then room_for size levels (blocks_for bytes) else None
+
+-- where there is room for texture t in client c's shared regions
 abbrev pub room_in : Scene → ℕ → Private → ℕ → Option Spot
-room_in s c p t = if is_small s c t then room_for s.region_size p.levels (blocks_needed s c t) else None
+room_in s c p t = room_by s.region_size p.levels (size_of s c t)

@@ -21,7 +21,7 @@ use Rattle.dri_client.specs.Textures.{bytes_in}
 use Rattle.dri_core.specs.Decide.{is_die, is_legal_entry}
 use Rattle.dri_core.specs.EntryTable.{is_start_for}
 use Rattle.dri_core.specs.Phases.{Ask, Asking, In, Old, Out, Over, is_done, is_holding, same_phase}
-use Rattle.dri_core.specs.Privates.{can_draw, can_run, is_ready, is_ready_for, is_triangle, room_in, textured_with}
+use Rattle.dri_core.specs.Privates.{can_draw, can_run, is_ready, is_ready_for, is_triangle, room_by, room_in, textured_with}
 use Rattle.dri_core.specs.Runs.{HoldRun, after, client_of}
 use Rattle.dri_core.specs.Worlds.{World}
 use Rattle.dri_core.proofs.Decide.{legal_is}
@@ -35,8 +35,6 @@ use Rattle.dri_journal.specs.declared.refusal.Refusal.{Refusal}
 use Rattle.dri_journal.specs.declared.refusal.Refusal.TheVariants as refusals
 use Rattle.dri_journal.proofs.Whom.{has_number, is_clients, some_commands}
 use Rattle.dri_model.specs.Groups.{bits, is_empty, same_number}
-use Rattle.dri_model.specs.Heaps.{Spot}
-use Rattle.dri_model.specs.Shares.{blocks_for, is_small_for, room_for}
 use Rattle.dri_texheap.specs.Placements.{placed_of}
 use Rattle.dri_texheap.specs.RegionStates.{AreRegionsOf, RegionState, heap_of}
 
@@ -143,10 +141,6 @@ at_place X Y i n = by_test (i == n) refl
     by_test true e = let same : n ≡ i = sym (eqb-true i n e) in λ k. first_unmet ((X (same k), refusals.NoCommand) ∷ (Y (same k), refusals.NotEmitted) ∷ [])
     by_test false e = refl
 
--- the room for so many bytes in shared regions with these levels
-abbrev room_by : ℕ → ℕ → (ℕ → Option ℕ) → Option Spot
-room_by size bytes levels = if is_small_for size bytes then room_for size levels (blocks_for bytes) else None
-
 -- the entries of a client
 module _ (s : Scene) (w : World) (n : ℕ) (script : ClientScript) (part : PartState) (m : Marks) (own : script ≡ script_of s n) (agrees : Agrees part (w.client n)) (marks : AreMarksOf w m) where
   pub light : first_unmet ((same_phase part.phase Out, refusals.WrongPhase) ∷ (is_none m.holder, refusals.Held) ∷ (m.left == n + 1, refusals.NotTheLast) ∷ []) ≡ first_unmet (conditions s w (Entry_is.Light n))
@@ -188,4 +182,4 @@ module _ (s : Scene) (w : World) (n : ℕ) (script : ClientScript) (part : PartS
       ((count == regions_for part.placed.region_size (bytes_in script t)) && is_start_for (own_room script part t) regions.count (heap_of regions) count first, refusals.WrongRun) ∷ [])
       ≡ first_unmet (conditions s w (Entry_is.Place n t first count))
   place t first count regions sized are = λ k. first_unmet ((same_phase (agrees k).phase In, refusals.WrongPhase) ∷ (is_triangle (slice_get (own k).commands (pred (agrees k).place)), refusals.NoTriangle) ∷ (same_number (textured_with (agrees k).state) (Some t), refusals.WrongTexture) ∷
-      (is_none ((agrees k).placed t), refusals.WrongTexture) ∷ ((count == regions_for (sized k) (bytes_in (own k) t)) && is_start_for (room_by (sized k) (bytes_in (own k) t) (agrees k).levels) (are.count k) (are.ages k) count first, refusals.WrongRun) ∷ [])
+      (is_none ((agrees k).placed t), refusals.WrongTexture) ∷ ((count == regions_for (sized k) (bytes_in (own k) t)) && is_start_for (room_by (sized k) (agrees k).levels (bytes_in (own k) t)) (are.count k) (are.ages k) count first, refusals.WrongRun) ∷ [])

@@ -20,7 +20,7 @@ use Rattle.dri_client.specs.Textures.{spot_used}
 use Rattle.dri_core.specs.Effects.{heap_after, heap_placed, run_at, spot_for}
 use Rattle.dri_core.specs.EntryTable.{LegalEntry, after_entry, is_start_for}
 use Rattle.dri_core.specs.Phases.{In}
-use Rattle.dri_core.specs.Privates.{Private, can_draw, can_run, is_small, room_in, run_in, size_of, spot_of, textured_with, used_spot}
+use Rattle.dri_core.specs.Privates.{Private, can_draw, can_run, is_small, room_by, room_in, run_in, size_of, spot_of, textured_with, used_spot}
 use Rattle.dri_core.specs.Runs.{HoldRun, IsCurrent, after, client_of}
 use Rattle.dri_core.proofs.Bounds.{age_most_of_all}
 use Rattle.dri_core.proofs.Packing.{IsRoom, room_is}
@@ -31,7 +31,7 @@ use Rattle.dri_core.proofs.TextureSizes.{place_inside, some_bytes}
 use Rattle.dri_journal.specs.Acts.{MayAct, UsesRegions, heap_by, is_quiet, own_room}
 use Rattle.dri_journal.proofs.Judged.{texture_small}
 use Rattle.dri_model.specs.Heaps.{Heap, Spot}
-use Rattle.dri_model.specs.Shares.{blocks_for, is_small_for, room_for}
+use Rattle.dri_model.specs.Shares.{is_small_for}
 use Rattle.dri_texheap.specs.Placements.{placed_of}
 use Rattle.dri_texheap.specs.RegionStates.{AreRegionsOf, IsInUse, IsInside, RegionState, heap_of}
 
@@ -71,12 +71,9 @@ module _ (s : Scene) (j : List Entry) (good : InRange s) (run : HoldRun s j) (c 
   placed_is : placed_of part.placed ≡ ((after s j).client c).placed
   placed_is = ap (λ (q : Private). q.placed) agrees
 
-  abbrev room_by : ℕ → (ℕ → Option ℕ) → ℕ → Option Spot
-  room_by size levels t = if is_small_for size (size_of s c t) then room_for size levels (blocks_for (size_of s c t)) else None
-
   -- the part's room is that of the world
   room_same : (t : ℕ) → own_room (script_of s c) part t ≡ room_in s c ((after s j).client c) t
-  room_same t = λ k. room_by (sized k) ((agrees k).levels) t
+  room_same t = λ k. room_by (sized k) ((agrees k).levels) (size_of s c t)
 
   -- a texture that is placed legally stands in this run, which lies inside the regions
   stands : (t first count : ℕ) → LegalEntry s (after s j) (Entry_is.Place c t first count) → (o : Option Spot) → room_in s c ((after s j).client c) t ≡ o →
