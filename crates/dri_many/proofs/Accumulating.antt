@@ -6,10 +6,6 @@ abbrev pub behind : {X : Type 0} → List X → Option (List X) → Option (List
 behind before (Some more) = Some (before ++ more)
 behind before None = None
 
-pub behind_none : {X : Type 0} (r : Option (List X)) → behind [] r ≡ r
-behind_none (Some more) = refl
-behind_none None = refl
-
 pub behind_more : {X : Type 0} (before : List X) (x : X) (r : Option (List X)) → behind before (r >>= λ more. Some (x ∷ more)) ≡ behind (before ++ x ∷ []) r
 behind_more before x (Some more) = ap Some (sym (append_assoc before (x ∷ []) more))
 behind_more before x None = refl
