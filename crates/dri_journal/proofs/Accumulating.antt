@@ -8,10 +8,6 @@ abbrev pub behind : List Entry → Result (List Entry) Refusal → Result (List 
 behind entries (Ok more) = Ok (entries ++ more)
 behind entries (Err refusal) = Err refusal
 
-pub behind_none : (r : Result (List Entry) Refusal) → behind [] r ≡ r
-behind_none (Ok more) = refl
-behind_none (Err refusal) = refl
-
 pub behind_more : (entries : List Entry) (e : Entry) (r : Result (List Entry) Refusal) → behind entries (r >>= λ more. Ok (e ∷ more)) ≡ behind (entries ++ e ∷ []) r
 behind_more entries e (Ok more) = ap Ok (sym (append_assoc entries (e ∷ []) more))
 behind_more entries e (Err refusal) = refl
