@@ -19,7 +19,8 @@ use Rattle.dri_card.specs.declared.faults.OutsideCard.{OutsideCard}
 use Rattle.dri_card.specs.declared.faults.OutsideCard.TheVariants.{Clip}
 use Rattle.dri_card.specs.declared.lifts.Lifts.{Lifts}
 use Rattle.dri_card.specs.Contents.{Contents, HaveSides, empty_clip}
-use Rattle.dri_card.specs.Drawing.{IsFirstOut, carried_by, in_rects}
+use Rattle.dri_base.specs.Rectangles.{in_rects}
+use Rattle.dri_card.specs.Drawing.{IsFirstOut, carried_by}
 use Rattle.dri_card.specs.Invariants.{FitTogether}
 use Rattle.dri_card.specs.Lifting.{HaveRoom}
 

@@ -1,6 +1,6 @@
 -- What the card's calls make of its pixels.
-use Rattle.std.specs.Prelude.{ℕ, ◌≡◌, List, ◌∷◌, ◌++◌, All, Bool, fold, sum_by, if◌then◌else◌, ℤ, pos, neg_ℤ, ◌-ℤ◌, ◌≤ℤ◌}
-use Rattle.std.specs.List.{list_any}
+use Rattle.std.specs.Prelude.{ℕ, ◌≡◌, List, ◌∷◌, ◌++◌, All, fold, sum_by, if◌then◌else◌, ℤ, pos, neg_ℤ, ◌-ℤ◌, ◌≤ℤ◌}
+use Rattle.dri_base.specs.Rectangles.{in_rects}
 use Rattle.dri_base.specs.declared.colour.Rgb.{Rgb}
 use Rattle.dri_base.specs.declared.colour.Pixel.{Pixel}
 use Rattle.dri_base.specs.declared.shape.ClipRect.{ClipRect}
@@ -59,10 +59,6 @@ OnlyShown old new = new ≡ record old { front = new.front }
 -- command words that can't be drawn
 abbrev pub IsDispatchFault : List ℕ → DispatchFault → Type 0
 IsDispatchFault words (BadWord b) = IsBadWord IsBuffer words b.at b.word
-
--- the place lies in one of the rectangles
-abbrev pub in_rects : List ClipRect → ℕ → ℕ → Bool
-in_rects rects x y = list_any (λ r. in_rect r x y) rects
 
 -- a plane after the pixels of the rectangles are carried by (dx, dy): at the places that they come to, what stood where they come from
 abbrev pub carried_by : {A : Type 0} → List ClipRect → ℤ → ℤ → (ℕ → ℕ → A) → ℕ → ℕ → A

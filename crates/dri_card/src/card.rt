@@ -12,7 +12,8 @@ ghost use Rattle.dri_model.specs.CommandWords.{IsTriangle, triangle_words, Buffe
 ghost use Rattle.dri_model.specs.Heaps.{uploaded};
 ghost use Rattle.dri_model.specs.Words.{registers_for};
 ghost use Rattle.dri_plane.specs.Grids.{pixel_count};
-ghost use Rattle.dri_plane.specs.Moves.{AreApart, pixel_counts};
+ghost use Rattle.dri_base.specs.Rectangles.{AreApart};
+ghost use Rattle.dri_plane.specs.Moves.{pixel_counts};
 ghost use Rattle.dri_card.specs.Contents.{Holds, IsOnCard, IsOpening, KeepSides, Shows, memory_of};
 ghost use Rattle.dri_card.specs.Drawing.{IsCarry, IsDispatchFault, IsFirstOff, OnlyCarried, OnlyDrawn, OnlyShown, StaysOnCard, after_triangle, after_triangles, carried_by, cleared, covered_centres, painted, swapped};
 ghost use Rattle.dri_walk.specs.Clips.{covered_places};

@@ -22,22 +22,16 @@ use Rattle.dri_card16.specs.RuleRuns.{DifferInPlanes, ShowsWith, SoloLeftWith, S
 use Rattle.dri_core.proofs.Carried.{CameFrom, IsKept, apart_at, came_from, restack_keeps}
 use Rattle.dri_core.proofs.FrameNumbers.{is_frame}
 use Rattle.dri_core.proofs.Laws.{LegalEntries-append}
+use Rattle.dri_core.proofs.Stood.{can_script, has_script}
 use Rattle.dri_core.proofs.Sound.{Sound, sound_after, sound_along, sound_kept}
 use Rattle.dri_core.specs.EntryTable.{LegalEntry, after_entry}
 use Rattle.dri_core.specs.Frames.{IsNoSwap, NoSwap, Stands, across, down, keeps, moves_whole}
-use Rattle.dri_core.specs.Privates.{can_draw, can_run}
+use Rattle.dri_core.specs.Privates.{can_draw}
 use Rattle.dri_core.specs.Restacks.{next_moved, next_stack, stamps_after}
 use Rattle.dri_core.specs.Runs.{HoldRun, LegalEntries, after, after_entries}
 use Rattle.dri_core.specs.Solo.{IsFrame, blank, frame, is_clear, is_swap}
 use Rattle.dri_core.specs.Worlds.{World, clips_in, opening}
 use Rattle.dri_model.specs.Stacks.{is_moved_whole, without_owner}
-
--- a client with a command has a script
-has_script : (cs : List Command) (i : ℕ) → is_clear (slice_get cs i) ≡ true → cs ≢ []
-has_script cs i is none = true≢false (sym is ∙ ap (λ l. is_clear (slice_get l i)) none)
-
-can_script : (cs : List Command) (i : ℕ) (ready : Bool) → can_run ready (slice_get cs i) ≡ true → cs ≢ []
-can_script cs i ready is none = true≢false (sym is ∙ ap (λ l. can_run ready (slice_get l i)) none)
 
 -- what a frame's last clear and the commands behind it leave is kept
 clear_kept : (rule : PixelRule) (r : Rules) (image : Option Image) (command : Option Command) (x y : ℤ) (under : Pixel) → KeepsForGood rule → is_clear command ≡ true →

@@ -26,7 +26,8 @@ use Rattle.dri_clips.specs.Gains.{AreOnScreen, clip_rect}
 use Rattle.dri_clips.specs.Layouts.{IsPlaced, screen_rect, top_at}
 use Rattle.dri_clips.specs.Mends.{AreMended, IsMended, list_or}
 use Rattle.dri_clips.specs.Motions.{AreMoved, IsAlong, IsCarryOf, IsMotion, IsPacked, moved_in, moved_whole}
-use Rattle.dri_clips.specs.Paints.{AreApart, IsCarried, IsCarry, IsNear, StaysOnScreen, in_rects, moves_whole}
+use Rattle.dri_base.specs.Rectangles.{AreApart, in_rects}
+use Rattle.dri_clips.specs.Paints.{IsCarried, IsCarry, IsNear, StaysOnScreen, moves_whole}
 use Rattle.dri_clips.proofs.Comparing.{below_true, decided}
 use Rattle.dri_clips.proofs.Gaining.{larger, some_shown}
 use Rattle.dri_clips.proofs.Lists.{list_is, list_put}

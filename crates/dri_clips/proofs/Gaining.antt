@@ -22,7 +22,8 @@ use Rattle.dri_clips.specs.Motions.{IsMotion, moved_in, repainted_of}
 use Rattle.dri_clips.specs.declared.moving.Motion.{Motion}
 use Rattle.dri_clips.specs.Layouts.{AreDistinct, screen_rect, top_at}
 use Rattle.dri_base.specs.Planes.{in_rect}
-use Rattle.dri_clips.specs.Paints.{AreApart, ArePaints, IsOnScreen, paint_at}
+use Rattle.dri_base.specs.Rectangles.{AreApart}
+use Rattle.dri_clips.specs.Paints.{ArePaints, IsOnScreen, paint_at}
 use Rattle.dri_clips.proofs.Walking.{on_screen, shown, top_pixel}
 use Rattle.dri_clips.proofs.Painting.{all_pairs_append, nothing_yet, or_else, paint_append, paint_region_at, paint_region_each, paint_region_apart, painted_at, partly, place, rects_on, region_painted, step, top_at_place, top_here, top_more, wanted}
 

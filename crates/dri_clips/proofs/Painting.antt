@@ -17,7 +17,8 @@ use Rattle.dri_clips.specs.declared.touched.Paint.{Paint}
 use Rattle.dri_clips.specs.Gains.{AreOnScreen, IsRectOnScreen, clip_rect, paint_of}
 use Rattle.dri_clips.specs.Layouts.{AreDistinct, IsAbsent, screen_rect}
 use Rattle.dri_base.specs.Planes.{in_rect}
-use Rattle.dri_clips.specs.Paints.{AreApart, IsOnScreen, StaysOnScreen, in_rects, paint_at}
+use Rattle.dri_base.specs.Rectangles.{AreApart, in_rects}
+use Rattle.dri_clips.specs.Paints.{IsOnScreen, StaysOnScreen, paint_at}
 use Rattle.dri_clips.proofs.Placing.{eq_sym, take_one}
 use Rattle.dri_clips.proofs.Walking.{never_top, top_pixel, on_screen}
 

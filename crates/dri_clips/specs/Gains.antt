@@ -9,7 +9,8 @@ use Rattle.dri_model.specs.Stacks.{is_moved, repaint, shift, top}
 use Rattle.dri_clips.specs.declared.touched.Paint.{Paint}
 use Rattle.dri_clips.specs.Boards.{shows}
 use Rattle.dri_clips.specs.Layouts.{screen_rect}
-use Rattle.dri_clips.specs.Paints.{AreApart, IsOnScreen, paint_at}
+use Rattle.dri_base.specs.Rectangles.{AreApart}
+use Rattle.dri_clips.specs.Paints.{IsOnScreen, paint_at}
 
 -- a rectangle without negative numbers
 abbrev pub clip_rect : Rect → ClipRect

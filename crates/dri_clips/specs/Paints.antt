@@ -1,6 +1,7 @@
 -- What a new stack touches: the windows that get a new stamp, the pixels that a moved window carries along, and the rectangles that are painted in front.
-use Rattle.std.specs.Prelude.{ℕ, ℤ, pos, neg_ℤ, ◌+ℤ◌, ◌≤ℤ◌, List, [], ◌∷◌, Bool, ◌&&◌, ◌≡◌, ◌≤◌, ◌<◌, ◌*◌, if◌then◌else◌, filter, length, is_some, Option, None, Some, All, AllPairs, false}
-use Rattle.std.specs.List.{list_any, range_with_len}
+use Rattle.std.specs.Prelude.{ℕ, ℤ, pos, neg_ℤ, ◌+ℤ◌, ◌≤ℤ◌, List, [], ◌∷◌, Bool, ◌≡◌, ◌≤◌, ◌<◌, ◌*◌, if◌then◌else◌, filter, length, is_some, Option, None, Some, All, AllPairs, false}
+use Rattle.std.specs.List.{range_with_len}
+use Rattle.dri_base.specs.Rectangles.{AreApart, in_rects}
 use Rattle.dri_base.specs.Limits.{most_side}
 use Rattle.dri_base.specs.declared.colour.Rgb.{Rgb}
 use Rattle.dri_base.specs.declared.scene.Window.{Window}
@@ -26,14 +27,6 @@ pub record StaysOnScreen (dx dy : ℤ) (width height : ℕ) (r : ClipRect) : Typ
   pub right : (pos r.x2 +ℤ dx) ≤ℤ pos width
   pub top : pos 0 ≤ℤ (pos r.y1 +ℤ dy)
   pub bottom : (pos r.y2 +ℤ dy) ≤ℤ pos height
-
--- no pixel is in both
-abbrev pub AreApart : ClipRect → ClipRect → Type 0
-AreApart r s = (x y : ℕ) → (in_rect r x y && in_rect s x y) ≡ false
-
--- one of the rectangles has the pixel
-abbrev pub in_rects : List ClipRect → ℕ → ℕ → Bool
-in_rects rects x y = list_any (λ r. in_rect r x y) rects
 
 -- as far as a window may be moved at once, across or down
 abbrev pub IsNear : ℤ → Type 0

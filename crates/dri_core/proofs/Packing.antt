@@ -14,8 +14,8 @@ use Rattle.dri_core.specs.Privates.{Private, blocks_needed, is_small, placed_aft
 use Rattle.dri_core.proofs.Sizes.{small_one}
 
 -- the blocks of two textures are apart
-abbrev pub AreApart : Scene → ℕ → ℕ → ℕ → Spot → Spot → Type 0
-AreApart s c t u a b = (a.block + blocks_needed s c t ≤ b.block) ⊎ (b.block + blocks_needed s c u ≤ a.block)
+abbrev pub SpotsApart : Scene → ℕ → ℕ → ℕ → Spot → Spot → Type 0
+SpotsApart s c t u a b = (a.block + blocks_needed s c t ≤ b.block) ⊎ (b.block + blocks_needed s c u ≤ a.block)
 
 pub record Packed (s : Scene) (c : ℕ) (placed : ℕ → Option Spot) (levels : ℕ → Option ℕ) : Type 0 where
   -- no level is above the region's blocks, where a region has some
@@ -28,7 +28,7 @@ pub record Packed (s : Scene) (c : ℕ) (placed : ℕ → Option Spot) (levels :
   -- a small texture stands in a shared region
   pub home : (t : ℕ) (spot : Spot) → placed t ≡ Some spot → is_small s c t ≡ true → (v : ℕ) × (levels spot.run.first ≡ Some v)
   -- two textures in one region are apart
-  pub apart : (t u k : ℕ) (a b : Spot) → placed t ≡ Some a → placed u ≡ Some b → (t ≡ u → ⊥) → in_run a.run k ≡ true → in_run b.run k ≡ true → AreApart s c t u a b
+  pub apart : (t u k : ℕ) (a b : Spot) → placed t ≡ Some a → placed u ≡ Some b → (t ≡ u → ⊥) → in_run a.run k ≡ true → in_run b.run k ≡ true → SpotsApart s c t u a b
 
 pub no_some : {A : Type 0} {o : Option A} {r : A} → o ≡ None → o ≡ Some r → ⊥
 no_some a b = grind arith

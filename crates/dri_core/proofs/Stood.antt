@@ -46,10 +46,10 @@ drawn_came s w v c first n place came drawn = record {
 }
 
 -- a client with a command has a script
-has_script : (cs : List Command) (i : ℕ) → is_clear (slice_get cs i) ≡ true → cs ≢ []
+pub has_script : (cs : List Command) (i : ℕ) → is_clear (slice_get cs i) ≡ true → cs ≢ []
 has_script cs i is none = true≢false (sym is ∙ ap (λ l. is_clear (slice_get l i)) none)
 
-can_script : (cs : List Command) (i : ℕ) (ready : Bool) → can_run ready (slice_get cs i) ≡ true → cs ≢ []
+pub can_script : (cs : List Command) (i : ℕ) (ready : Bool) → can_run ready (slice_get cs i) ≡ true → cs ≢ []
 can_script cs i ready is none = true≢false (sym is ∙ ap (λ l. can_run ready (slice_get l i)) none)
 
 -- a client that runs a command beside c draws on another window

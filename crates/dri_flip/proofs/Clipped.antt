@@ -16,7 +16,7 @@ use Rattle.dri_clips.specs.Paints.{IsOnScreen}
 use Rattle.dri_flip.specs.Follows.{AreRectsOf}
 use Rattle.dri_model.specs.Stacks.{clips, is_window, top}
 use Rattle.dri_plane.specs.Grids.{IsInside}
-use Rattle.dri_plane.specs.Moves.{AreApart}
+use Rattle.dri_base.specs.Rectangles.{AreApart}
 use Rattle.dri_rect.specs.Pixels.{IsApart, IsProper, inside}
 
 -- where a window shows is on the screen

@@ -12,7 +12,7 @@ use Rattle.dri_base.specs.Fragments.{Rules, fragment}
 use Rattle.dri_base.specs.Ranges.{IsPlace}
 use Rattle.dri_base.specs.Scenes.{bytes_of}
 use Rattle.dri_base.specs.Texels.{Image, given_image}
-use Rattle.dri_card.specs.Drawing.{in_rects}
+use Rattle.dri_base.specs.Rectangles.{in_rects}
 use Rattle.dri_meaning.specs.Canvases.{bound_first}
 use Rattle.dri_model.specs.Words.{card_image}
 use Rattle.dri_plane.specs.Grids.{ClipRect, Grid}

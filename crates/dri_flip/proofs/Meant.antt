@@ -4,7 +4,7 @@ use Rattle.dri_base.specs.declared.colour.Rgb.{Rgb}
 use Rattle.dri_base.specs.declared.colour.Pixel.{Pixel}
 use Rattle.dri_base.specs.Planes.{plane}
 use Rattle.dri_base.proofs.PlaneLists.{plane_same}
-use Rattle.dri_card.specs.Drawing.{in_rects}
+use Rattle.dri_base.specs.Rectangles.{in_rects}
 use Rattle.dri_plane.specs.Grids.{ClipRect, Grid, pixel_count}
 use Rattle.dri_plane.specs.Runs.{HoldPairs}
 use Rattle.dri_flip.specs.Calls.{OnlyDrawn, OnlyShown, cleared_in, copy_steps, swapped_in}

@@ -8,7 +8,8 @@ use Rattle.dri_base.specs.declared.shape.Triangle.{Triangle}
 use Rattle.dri_base.specs.Fragments.{Rules}
 use Rattle.dri_base.specs.Texels.{Image}
 use Rattle.dri_base.proofs.PlaneLists.{plane_same}
-use Rattle.dri_card.specs.Drawing.{carried_by, in_rects, painted}
+use Rattle.dri_base.specs.Rectangles.{in_rects}
+use Rattle.dri_card.specs.Drawing.{carried_by, painted}
 use Rattle.dri_model.specs.Stacks.{pixel_in}
 use Rattle.dri_plane.specs.Alike.{pairs_same}
 use Rattle.std.proofs.lemmas.List.Sums.{sum_by-cons}

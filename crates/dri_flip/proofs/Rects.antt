@@ -8,12 +8,12 @@ use Rattle.std.proofs.lemmas.List.Folds.{list_any_more, list_any_none}
 use Rattle.std.proofs.lemmas.List.Sums.{sum_by-cons, sum_by_more}
 use Rattle.std.proofs.Math.Nat.{mul-le-mul, mul-pos}
 use Rattle.dri_base.specs.Planes.{in_rect}
-use Rattle.dri_card.specs.Drawing.{in_rects}
+use Rattle.dri_base.specs.Rectangles.{AreApart, in_rects}
 use Rattle.dri_flip.specs.Places.{has_all, has_some}
 use Rattle.dri_model.specs.Counting.{all_below}
 use Rattle.dri_model.proofs.Touches.{all_below_at}
 use Rattle.dri_plane.specs.Grids.{ClipRect, IsInside, pixel_count}
-use Rattle.dri_plane.specs.Moves.{AreApart, pixel_counts}
+use Rattle.dri_plane.specs.Moves.{pixel_counts}
 use Rattle.dri_plane.proofs.Room.{apart_fit, cover_fills, full_covers}
 
 -- either of two tests

@@ -3,7 +3,7 @@ use Rattle.std.proofs.Common.{◌≡◌, ◌≤◌, ◌<◌, ℕ, Bool, true, fa
 use Rattle.std.proofs.lemmas.Bool.{true≢false}
 use Rattle.dri_base.specs.declared.shape.ClipRect.{ClipRect}
 use Rattle.std.specs.Prelude.{List}
-use Rattle.dri_card.specs.Drawing.{in_rects}
+use Rattle.dri_base.specs.Rectangles.{in_rects}
 use Rattle.dri_clips.proofs.Comparing.{below_true}
 use Rattle.dri_flip.specs.Calls.{fill, touch}
 use Rattle.dri_flip.specs.Meanings.{HaveSides, Meaning}

@@ -11,10 +11,10 @@ use Rattle.dri_base.specs.Fragments.{Rules, fragment}
 use Rattle.dri_base.specs.Planes.{plane, in_rect}
 use Rattle.dri_base.specs.Texels.{Image}
 use Rattle.dri_base.proofs.PlaneLists.{plane_same}
-use Rattle.dri_card.specs.Drawing.{cleared, in_rects}
+use Rattle.dri_base.specs.Rectangles.{AreApart, in_rects}
+use Rattle.dri_card.specs.Drawing.{cleared}
 use Rattle.dri_plane.specs.Alike.{pairs_same}
 use Rattle.dri_plane.specs.Grids.{Becomes, ClipRect, Grid}
-use Rattle.dri_plane.specs.Moves.{AreApart}
 use Rattle.dri_plane.specs.Runs.{HoldPairs}
 use Rattle.dri_walk.specs.Clips.{covered_places}
 use Rattle.dri_walk.specs.Drawings.{after_drawing}

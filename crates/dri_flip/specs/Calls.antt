@@ -8,7 +8,7 @@ use Rattle.dri_base.specs.declared.shape.Triangle.{Triangle}
 use Rattle.dri_base.specs.declared.texture.Texture.{Texture}
 use Rattle.dri_base.specs.Fragments.{Rules, fragment}
 use Rattle.dri_base.specs.Texels.{Image}
-use Rattle.dri_card.specs.Drawing.{in_rects}
+use Rattle.dri_base.specs.Rectangles.{in_rects}
 use Rattle.dri_flip.specs.Meanings.{Meaning}
 use Rattle.dri_flip.specs.Places.{has_all, has_some}
 use Rattle.dri_meaning.specs.Scripts.{HasTexels}

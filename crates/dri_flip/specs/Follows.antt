@@ -5,7 +5,7 @@ use Rattle.dri_base.specs.declared.colour.Rgb.{Rgb}
 use Rattle.dri_base.specs.declared.journal.Entry.{Entry}
 use Rattle.dri_base.specs.declared.scene.Scene.{Scene}
 use Rattle.dri_base.specs.declared.shape.ClipRect.{ClipRect}
-use Rattle.dri_card.specs.Drawing.{in_rects}
+use Rattle.dri_base.specs.Rectangles.{AreApart, in_rects}
 use Rattle.dri_clips.specs.declared.touched.Touched.{Touched}
 use Rattle.dri_core.specs.Worlds.{World}
 use Rattle.dri_flip.specs.Meanings.{HaveSides, Holds, KeepSides, Meaning, Shows}
@@ -18,7 +18,6 @@ use Rattle.dri_journal.specs.declared.deed.Deed.TheVariants as Deed_is
 use Rattle.dri_journal.specs.declared.refusal.StepFault.{StepFault}
 use Rattle.dri_journal.specs.declared.refusal.StepFault.TheVariants as faults
 use Rattle.dri_plane.specs.Grids.{IsInside}
-use Rattle.dri_plane.specs.Moves.{AreApart}
 use Rattle.dri_replay.specs.Makings.{back_made, clips_now, front_made}
 
 -- what the card owes, and what was counted

@@ -12,7 +12,7 @@ ghost use Rattle.dri_flip.specs.Follows.{IsScreen, counted, has_change};
 ghost use Rattle.dri_flip.specs.Meanings.{Holds, IsOnCard, IsOpening, KeepSides, Shows};
 ghost use Rattle.dri_flip.specs.Owings.{flipped_where, nothing_owed, paid_where};
 ghost use Rattle.dri_clips.specs.Paints.{filled};
-ghost use Rattle.dri_plane.specs.Moves.{AreApart};
+ghost use Rattle.dri_base.specs.Rectangles.{AreApart};
 ghost use Rattle.dri_replay.specs.Makings.{CanShow, carried_along};
 
 use crate::card::FlipCard;

@@ -7,7 +7,8 @@ use Rattle.std.proofs.lemmas.Bool.{true≢false, cases_eq}
 use Rattle.std.proofs.lemmas.Bool.Decides.{nat_tests}
 use Rattle.dri_base.specs.Planes.{in_rect}
 use Rattle.dri_plane.specs.Grids.{ClipRect, IsInside, pixel_count}
-use Rattle.dri_plane.specs.Moves.{AreApart, pixel_counts}
+use Rattle.dri_base.specs.Rectangles.{AreApart}
+use Rattle.dri_plane.specs.Moves.{pixel_counts}
 
 -- the sum of f over the numbers below n
 abbrev total : (ℕ → ℕ) → ℕ → ℕ

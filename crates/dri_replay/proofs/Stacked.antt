@@ -7,7 +7,8 @@ use Rattle.dri_base.specs.declared.scene.Window.{Window}
 use Rattle.dri_base.specs.declared.shape.ClipRect.{ClipRect}
 use Rattle.dri_base.specs.Planes.{in_rect}
 use Rattle.dri_card.specs.Drawing.{painted as painted_in}
-use Rattle.dri_clips.specs.Paints.{AreApart, ArePaints, IsCarried, StaysOnScreen, filled, in_rects, paint_at}
+use Rattle.dri_base.specs.Rectangles.{AreApart, in_rects}
+use Rattle.dri_clips.specs.Paints.{ArePaints, IsCarried, StaysOnScreen, filled, paint_at}
 use Rattle.dri_clips.specs.declared.touched.Carry.{Carry}
 use Rattle.dri_clips.specs.declared.touched.Paint.{Paint}
 use Rattle.dri_clips.specs.declared.touched.Touched.{Touched}

@@ -18,7 +18,7 @@ use Rattle.dri_core.specs.Worlds.{clips_in}
 use Rattle.dri_journal.specs.Replays.{ReplayState, world_of}
 use Rattle.dri_journal.specs.declared.deed.Deed.{Deed}
 use Rattle.dri_journal.specs.declared.deed.Deed.TheVariants as Deed_is
-use Rattle.dri_plane.specs.Moves.{AreApart}
+use Rattle.dri_base.specs.Rectangles.{AreApart}
 
 -- the command is a clear, a triangle or a swap
 abbrev pub uses_clips : Option Command → Bool

@@ -12,7 +12,8 @@ use Rattle.dri_card.specs.Contents.{Contents, HaveSides, Holds, KeepSides, Shows
 use Rattle.dri_card.specs.Drawing.{OnlyCarried, painted as painted_in}
 use Rattle.dri_base.specs.declared.shape.ClipRect.{ClipRect}
 use Rattle.dri_clips.specs.Boards.{IsRestacked, Screen, stamps_of}
-use Rattle.dri_clips.specs.Paints.{AreApart, ArePaints, IsCarried, IsOnScreen, StaysOnScreen, IsTouched, filled, in_rects, paint_at}
+use Rattle.dri_base.specs.Rectangles.{AreApart, in_rects}
+use Rattle.dri_clips.specs.Paints.{ArePaints, IsCarried, IsOnScreen, StaysOnScreen, IsTouched, filled, paint_at}
 use Rattle.dri_clips.specs.declared.change.ChangeFault.{ChangeFault}
 use Rattle.dri_clips.specs.declared.change.ChangeFault.TheVariants.{NoWindow, OutOfRange, AlreadyMapped, NotMapped, OutOfMemory}
 use Rattle.dri_clips.specs.declared.touched.Carry.{Carry}

@@ -8,7 +8,8 @@ use Rattle.dri_clips.specs.declared.touched.Paint.{Paint}
 use Rattle.dri_clips.specs.declared.touched.Touched.{Touched}
 use Rattle.dri_model.specs.Heaps.{Heap, Run, touched}
 use Rattle.dri_plane.specs.Grids.{pixel_count}
-use Rattle.dri_plane.specs.Moves.{AreApart, pixel_counts}
+use Rattle.dri_base.specs.Rectangles.{AreApart}
+use Rattle.dri_plane.specs.Moves.{pixel_counts}
 
 -- the card can carry this: rectangles that stay on it, none of which share a pixel, and not too far
 pub record CanCarry (v : Contents) (carry : Carry) : Type 0 where

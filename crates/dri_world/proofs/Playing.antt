@@ -55,9 +55,9 @@ abbrev pub IsApart : Grouping → Party → Type 0
 IsApart g (Group h) = (h ≡ g) ⊎ (IsGood h × ((c : ℕ) → Contains g.members c → Contains h.members c → ⊥))
 IsApart g (Alone a) = is_member g a ≡ false
 
-abbrev pub AreApart : Grouping → List Party → Type 0
-AreApart g [] = Unit {0}
-AreApart g (p ∷ ps) = IsApart g p × AreApart g ps
+abbrev pub PartiesApart : Grouping → List Party → Type 0
+PartiesApart g [] = Unit {0}
+PartiesApart g (p ∷ ps) = IsApart g p × PartiesApart g ps
 
 in_turn : (s : Scene) (g : Grouping) (events : List Event) (p : Party) (a : ℕ) → IsApart g p → actor_at s events p ≡ Some a → IsInTurn g (after_events s (opening_core s) events).world (standing s g (journal_of events)) a
 in_turn s g events (Group h) a (inl same) is member = subst (λ (x : Grouping). current_after s x events ≡ Some a) same is
@@ -105,7 +105,7 @@ played_run s past (p ∷ ps) good run =
     subst (IsRun s) (append_events past (one_event (party_event s past p)) (party_played s (past ++ one_event (party_event s past p)) ps))
     (played_run s (past ++ one_event (party_event s past p)) ps good (run_on s past p good run))
 
-pub played_kept : (s : Scene) (g : Grouping) (past : List Event) (ps : List Party) → IsWellFormed s → IsSettled g → AreApart g ps → IsRun s past → Kept s g past → Kept s g (past ++ party_played s past ps)
+pub played_kept : (s : Scene) (g : Grouping) (past : List Event) (ps : List Party) → IsWellFormed s → IsSettled g → PartiesApart g ps → IsRun s past → Kept s g past → Kept s g (past ++ party_played s past ps)
 played_kept s g past [] good settled apart run kept = subst (Kept s g) (sym (append-nil past)) kept
 played_kept s g past (p ∷ ps) good settled apart run kept =
     subst (Kept s g) (append_events past (one_event (party_event s past p)) (party_played s (past ++ one_event (party_event s past p)) ps))
@@ -124,7 +124,7 @@ pub rounds_run : (s : Scene) (groups : List Grouping) (n : ℕ) → IsWellFormed
 rounds_run s groups zero good = tt
 rounds_run s groups (suc n) good = played_run s (group_rounds s groups n) (parties s groups) good (rounds_run s groups n good)
 
-pub rounds_kept : (s : Scene) (groups : List Grouping) (g : Grouping) (n : ℕ) → IsWellFormed s → IsSettled g → AreApart g (parties s groups) → Kept s g (group_rounds s groups n)
+pub rounds_kept : (s : Scene) (groups : List Grouping) (g : Grouping) (n : ℕ) → IsWellFormed s → IsSettled g → PartiesApart g (parties s groups) → Kept s g (group_rounds s groups n)
 rounds_kept s groups g zero good settled apart = kept_opening s g
 rounds_kept s groups g (suc n) good settled apart = played_kept s g (group_rounds s groups n) (parties s groups) good settled apart (rounds_run s groups n good) (rounds_kept s groups g n good settled apart)
 
@@ -150,11 +150,11 @@ among_all [] i g c is there = absurd (let l = slice_get_within {A = Grouping} []
 among_all (h ∷ hs) zero g c is there = let same : h ≡ g = same_Some h g is in Contains-append_left h.members (all_members hs) c (subst (λ (x : Grouping). Contains x.members c) (sym same) there)
 among_all (h ∷ hs) (suc i) g c is there = Contains-append_right h.members (all_members hs) c (among_all hs i g c is there)
 
-apart_from : (g : Grouping) (groups : List Grouping) → ((i : ℕ) (h : Grouping) → slice_get groups i ≡ Some h → IsGood h) → ((c : ℕ) → Contains g.members c → Contains (all_members groups) c → ⊥) → AreApart g (map Group groups)
+apart_from : (g : Grouping) (groups : List Grouping) → ((i : ℕ) (h : Grouping) → slice_get groups i ≡ Some h → IsGood h) → ((c : ℕ) → Contains g.members c → Contains (all_members groups) c → ⊥) → PartiesApart g (map Group groups)
 apart_from g [] good apart = tt
 apart_from g (h ∷ hs) good apart = (inr (good 0 h refl, λ c x y. apart c x (Contains-append_left h.members (all_members hs) c y)), apart_from g hs (λ i x is. good (suc i) x is) (λ c x y. apart c x (Contains-append_right h.members (all_members hs) c y)))
 
-apart_groups : (groups : List Grouping) (i : ℕ) (g : Grouping) → ((j : ℕ) (h : Grouping) → slice_get groups j ≡ Some h → IsGood h) → AllPairs ◌≢◌ (all_members groups) → slice_get groups i ≡ Some g → AreApart g (map Group groups)
+apart_groups : (groups : List Grouping) (i : ℕ) (g : Grouping) → ((j : ℕ) (h : Grouping) → slice_get groups j ≡ Some h → IsGood h) → AllPairs ◌≢◌ (all_members groups) → slice_get groups i ≡ Some g → PartiesApart g (map Group groups)
 apart_groups [] i g good all is = tt
 apart_groups (h ∷ hs) zero g good all is =
     let same : h ≡ g = same_Some h g is in
@@ -162,7 +162,7 @@ apart_groups (h ∷ hs) zero g good all is =
 apart_groups (h ∷ hs) (suc i) g good all is =
     (inr (good 0 h refl, λ c x y. apart_lists h.members (all_members hs) c all y (among_all hs i g c is x)), apart_groups hs i g (λ j x at. good (suc j) x at) (pairs_later h.members (all_members hs) all) is)
 
-apart_append : (g : Grouping) (ps qs : List Party) → AreApart g ps → AreApart g qs → AreApart g (ps ++ qs)
+apart_append : (g : Grouping) (ps qs : List Party) → PartiesApart g ps → PartiesApart g qs → PartiesApart g (ps ++ qs)
 apart_append g [] qs a b = b
 apart_append g (p ∷ ps) qs a b = (a.0, apart_append g ps qs a.1 b)
 
@@ -179,11 +179,11 @@ in_none (h ∷ hs) i g c is no_group = by_member (is_member h c) refl (λ j at r
     by_member true m later = absurd (true≢false (rw m at no_group))
     by_member false m later = by_place i is m (λ k at. later k at (rw m at no_group))
 
-pub apart_ungrouped : (groups : List Grouping) (i : ℕ) (g : Grouping) (clients : List ℕ) → slice_get groups i ≡ Some g → AreApart g (map Alone (ungrouped groups clients))
+pub apart_ungrouped : (groups : List Grouping) (i : ℕ) (g : Grouping) (clients : List ℕ) → slice_get groups i ≡ Some g → PartiesApart g (map Alone (ungrouped groups clients))
 apart_ungrouped groups i g [] is = tt
 apart_ungrouped groups i g (c ∷ cs) is = by_group (in_groups groups c) refl (apart_ungrouped groups i g cs is)
   where
-    by_group : (b : Bool) → in_groups groups c ≡ b → AreApart g (map Alone (ungrouped groups cs)) → AreApart g (map Alone (ungrouped groups (c ∷ cs)))
+    by_group : (b : Bool) → in_groups groups c ≡ b → PartiesApart g (map Alone (ungrouped groups cs)) → PartiesApart g (map Alone (ungrouped groups (c ∷ cs)))
     by_group true h next = rw h next
     by_group false h next = rw h (in_none groups i g c is h, next)
 
@@ -215,7 +215,7 @@ no_server s groups i g good are is = by_member (is_member g 0) refl
     by_member false m = refl
     by_member true m = absurd (let l = (settled_at s groups i g good are is).numbered 0 (member_there g.members 0 m) in omega (arith, l))
 
-pub apart_at : (s : Scene) (groups : List Grouping) (i : ℕ) (g : Grouping) → InRange s → AreGroupings s groups → slice_get groups i ≡ Some g → AreApart g (parties s groups)
+pub apart_at : (s : Scene) (groups : List Grouping) (i : ℕ) (g : Grouping) → InRange s → AreGroupings s groups → slice_get groups i ≡ Some g → PartiesApart g (parties s groups)
 apart_at s groups i g good are is =
     apart_append g (map Group groups) (map Alone (ungrouped groups (client_numbers s.clients)) ++ Alone 0 ∷ [])
     (apart_groups groups i g (λ j h at. (settled_at s groups j h good are at).good) are.apart is)

@@ -26,7 +26,7 @@ use Rattle.dri_world.specs.GroupRuns.{Alone, Group, Party, current_after, party_
 use Rattle.dri_world.specs.Seats.{GoesFrom, IsCurrentSeat, IsSeatOf, IsSmall, Seated, moved_by, next_place, order_of}
 use Rattle.dri_world.specs.declared.seat.Seat.{Seat}
 use Rattle.dri_world.proofs.Orders.{IsFirstLive, IsGood, at_member, goes_on, live_is, live_near, member_there, none_where_over, stands_at, stands_member, starts, there_member}
-use Rattle.dri_world.proofs.Playing.{AreApart, actor_at, among_all, append_events, apart_lists, client_by, good_by, grouping_at, pairs_later, turned_by}
+use Rattle.dri_world.proofs.Playing.{PartiesApart, actor_at, among_all, append_events, apart_lists, client_by, good_by, grouping_at, pairs_later, turned_by}
 use Rattle.dri_world.proofs.Stepping.{standing_on}
 use Rattle.dri_world.proofs.Tidy.{HasCurrent, current_has, moved_is, stays, stood}
 use Rattle.dri_world.proofs.Whose.{others}
@@ -217,7 +217,7 @@ seated_through s g past (p ∷ ps) seat good away of =
     (seated_through s g (past ++ one_event (party_event s past p)) ps seat good away.1 (seated_party s g past p seat good away.0 of))
 
 -- clients in no group are away from each
-pub alone_away : (g : Grouping) (cs : List ℕ) → AreApart g (map Alone cs) → AreAway g (map Alone cs)
+pub alone_away : (g : Grouping) (cs : List ℕ) → PartiesApart g (map Alone cs) → AreAway g (map Alone cs)
 alone_away g [] all = tt
 alone_away g (c ∷ cs) all = (all.0, alone_away g cs all.1)
 

@@ -1,6 +1,6 @@
 -- Back is shown, and a flip and a copy that was owed are counted.
 use Rattle.std.proofs.Common.{◌∙◌, ◌+◌, ap, if◌then◌else◌}
-use Rattle.dri_card.specs.Drawing.{in_rects}
+use Rattle.dri_base.specs.Rectangles.{in_rects}
 use Rattle.dri_flip.specs.Calls.{fill, touch}
 use Rattle.dri_flip.specs.Follows.{counted}
 use Rattle.dri_flip.proofs.Counts.{copies_where, copy_counted, fills_where, flip_counted}
