@@ -1,49 +1,28 @@
 -- The clips and the triangle of a client, as jobs take them.
-use Rattle.std.proofs.Common.{◌≡◌, ◌-ℤ◌, ℕ, ℤ, pos, negsuc, List, true, ◌&&◌, nat_lt, if◌then◌else◌, Option, Some, None, IfSome, refl, ◌∙◌, sym, ap}
-use Rattle.std.proofs.lemmas.Bool.{and_parts, true≢false}
+use Rattle.std.proofs.Common.{◌≡◌, ◌-ℤ◌, ℕ, pos, List, if◌then◌else◌, Option, Some, None, IfSome, refl, ◌∙◌, ap}
 use Rattle.dri_base.specs.Fragments.{fragment, rules_of}
 use Rattle.dri_base.specs.Ranges.{IsPlace}
 use Rattle.dri_base.specs.Scenes.{textures_of, window_of}
 use Rattle.dri_base.specs.Texels.{own_image, texture_bound}
 use Rattle.dri_base.specs.declared.colour.Pixel.{Pixel}
-use Rattle.dri_base.specs.declared.scene.Window.{Window}
 use Rattle.dri_base.specs.declared.shape.Point.{Point}
 use Rattle.dri_base.specs.declared.shape.Rect.{Rect}
 use Rattle.dri_base.specs.declared.shape.Triangle.{Triangle}
 use Rattle.dri_base.specs.declared.state.State.{State}
 use Rattle.dri_base.specs.declared.texture.BoundTexture.{BoundTexture}
 use Rattle.dri_base.specs.declared.texture.Texture.{Texture}
-use Rattle.dri_clips.specs.Boards.{shows}
-use Rattle.dri_draw.specs.Drawing.{has_place}
-use Rattle.dri_journal.specs.Replays.{AreCurrentClips, ReplayState, world_of}
+use Rattle.dri_journal.specs.Replays.{ReplayState, world_of}
 use Rattle.dri_journal.specs.declared.deed.Deed.TheVariants as Deed_is
 use Rattle.dri_meaning.specs.Canvases.{bound_first}
 use Rattle.dri_meaning.specs.Scripts.{HasTexels}
 use Rattle.dri_model.specs.Groups.{all_groups}
-use Rattle.dri_model.specs.Stacks.{is_window, origin, top}
+use Rattle.dri_model.specs.Stacks.{origin}
 use Rattle.dri_model.specs.Words.{IsBoundInRange, IsScissorInRange, Spelled, emitted_words, registers_for}
 use Rattle.dri_replay.specs.Makings.{back_made, state_now}
 use Rattle.dri_ring.specs.Follows.{AreClipsNow, IsTriangleJob}
-use Rattle.dri_ring.specs.Jobs.{AreWithin, back_after, on_screen, spelled_rules}
+use Rattle.dri_ring.specs.Jobs.{back_after, spelled_rules}
 use Rattle.dri_ring.specs.declared.job.Job.TheVariants as Job_is
 use Rattle.dri_ring.proofs.Spells.{rules_spelled}
-
--- where a window shows is on the screen
-shown_on : (width height : ℕ) (ws : List Window) (n : ℕ) (x y : ℤ) → shows width height ws n x y ≡ true → has_place (on_screen width height) x y ≡ true
-shown_on width height ws n (pos x) (pos y) e =
-    let first = and_parts (nat_lt x width) (nat_lt y height && is_window n (top ws x y)) e in
-    let second = and_parts (nat_lt y height) (is_window n (top ws x y)) first.1 in
-    λ k. first.0 k && second.0 k
-shown_on width height ws n (pos x) (negsuc y) e = absurd (true≢false (sym e))
-shown_on width height ws n (negsuc x) (pos y) e = absurd (true≢false (sym e))
-shown_on width height ws n (negsuc x) (negsuc y) e = absurd (true≢false (sym e))
-
--- the current clips, copied
-pub clips_are : (v : ReplayState) (c : ℕ) (clips copy : List Rect) → copy ≡ clips → AreCurrentClips v c clips → AreClipsNow v c copy
-clips_are v c clips copy same are = rw same (record { within = within; has = λ x y. are (pos x) (pos y) })
-  where
-    within : AreWithin v.scene.width v.scene.height clips
-    within x y e = shown_on v.scene.width v.scene.height (world_of v).stack (window_of v.scene c) x y (sym (are x y) ∙ e)
 
 -- a texture with texels has sides in range
 bound_range : (o : Option Texture) → IfSome o HasTexels → IsBoundInRange (bound_first o)

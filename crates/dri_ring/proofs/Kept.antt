@@ -1,5 +1,5 @@
 -- Planes as functions of their places: what a plane shows, read back; and planes that are the same on a screen.
-use Rattle.std.proofs.Common.{◌≡◌, ◌<◌, ◌+◌, ◌*◌, ℕ, pos, List, [], ◌∷◌, Bool, true, false, refl, sym, ◌∙◌, ap, arith, subst}
+use Rattle.std.proofs.Common.{◌≡◌, ◌<◌, ◌+◌, ◌*◌, ℕ, pos, List, [], Bool, true, false, refl, sym, ◌∙◌, ap, arith, subst}
 use Rattle.std.proofs.lemmas.Bool.Decides.{nat_tests}
 use Rattle.std.proofs.lemmas.Option.{get_or_from_slice_get}
 use Rattle.dri_base.specs.declared.colour.Pixel.{Pixel}
@@ -12,7 +12,7 @@ use Rattle.dri_card.specs.Contents.{blank}
 use Rattle.dri_draw.specs.Drawing.{in_clips}
 use Rattle.dri_plane.specs.Grids.{Grid}
 use Rattle.dri_ring.specs.Jobs.{AreWithin, IsGood, Planes, effect, on_screen}
-use Rattle.dri_ring.specs.Rings.{Agree, HaveSides, Show, after_jobs, pixel_of, read}
+use Rattle.dri_ring.specs.Rings.{Agree, HaveSides, Show, pixel_of, read}
 use Rattle.dri_ring.specs.declared.job.Job.{Job}
 use Rattle.dri_ring.specs.declared.job.Job.TheVariants as Job_is
 
@@ -126,8 +126,3 @@ pub effect_agrees : (s : Scene) (width height : ℕ) (job : Job) (p q : Planes) 
 effect_agrees s width height (Job_is.Clear clips colour depth) p q agree = record { front = agree.front; back = λ x y lx ly. rw (agree.back x y lx ly) refl }
 effect_agrees s width height (Job_is.Draw clips origin words client texture t) p q agree = record { front = agree.front; back = λ x y lx ly. rw (agree.back x y lx ly) refl }
 effect_agrees s width height (Job_is.Swap clips) p q agree = record { front = λ x y lx ly. rw (agree.front x y lx ly, agree.back x y lx ly) refl; back = agree.back }
-
--- and so do jobs one after another
-pub after_agrees : (s : Scene) (width height : ℕ) (jobs : List Job) (p q : Planes) → Agree width height p q → Agree width height (after_jobs s jobs p) (after_jobs s jobs q)
-after_agrees s width height [] p q agree = agree
-after_agrees s width height (job ∷ jobs) p q agree = after_agrees s width height jobs (effect s p job) (effect s q job) (effect_agrees s width height job p q agree)

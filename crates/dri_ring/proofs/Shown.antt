@@ -1,5 +1,5 @@
 -- What a new stack leaves on an idle engine's planes.
-use Rattle.std.proofs.Common.{◌≡◌, ◌≤◌, ◌<◌, ℕ, ℤ, List, [], ◌∷◌, length, take, slice_index_or, All, ◌∙◌, sym, ap, subst, arith}
+use Rattle.std.proofs.Common.{◌≡◌, ◌≤◌, ◌<◌, ℕ, ℤ, List, [], ◌∷◌, length, take, slice_index_or, All, ◌∙◌, ap, subst, arith}
 use Rattle.std.proofs.lemmas.Int.{ints}
 use Rattle.std.proofs.lemmas.List.{take_all}
 use Rattle.dri_base.specs.declared.colour.Rgb.{Rgb}
@@ -8,7 +8,7 @@ use Rattle.dri_card.specs.Drawing.{IsCarry}
 use Rattle.dri_clips.specs.Paints.{IsOnScreen, StaysOnScreen, filled}
 use Rattle.dri_clips.specs.declared.touched.Paint.{Paint}
 use Rattle.dri_plane.specs.Grids.{IsInside}
-use Rattle.dri_ring.specs.Rings.{OnlyCarried, OnlyShown, Ring, Shows}
+use Rattle.dri_ring.specs.Rings.{OnlyShown, Ring, Shows}
 
 -- what stays on a screen doesn't go far
 pub goes_near : (dx dy : ℤ) (width height : ℕ) (rects : List ClipRect) → width ≤ 1024 → height ≤ 1024 → 0 < length rects → All (StaysOnScreen dx dy width height) rects → IsCarry dx × IsCarry dy
@@ -29,11 +29,6 @@ paint_inside v w ps i d lt only on =
 -- what stays, over two steps
 pub only_shown : (a b c : Ring) → OnlyShown a b → OnlyShown b c → OnlyShown a c
 only_shown a b c p q = q ∙ ap {A = Ring} (λ v. record v { front = c.front }) p
-
-pub carried_shown : (a b c : Ring) → OnlyCarried a b → OnlyShown b c → OnlyCarried a c
-carried_shown a b c p q =
-    let e : c ≡ record a { front = c.front; back = b.back; depth = b.depth } = q ∙ ap {A = Ring} (λ v. record v { front = c.front }) p in
-    e ∙ (λ i. record a { front = c.front; back = sym (ap {A = Ring} (λ v. v.back) q) i; depth = sym (ap {A = Ring} (λ v. v.depth) q) i })
 
 pub shows_same : (v : Ring) (f g : ℕ → ℕ → Rgb) → ((x y : ℕ) → f x y ≡ g x y) → Shows v f → Shows v g
 shows_same v f g e is = subst (Shows v) (λ i x y. e x y i) is
