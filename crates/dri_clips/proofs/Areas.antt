@@ -1,16 +1,13 @@
 -- The area of a new stack, and the windows that it reaches.
 use Rattle.std.proofs.Common.{◌≡◌, ℕ, zero, suc, ◌≤◌, ◌+◌, ◌*◌, length, take, List, [], ◌∷◌, ◌++◌, Bool, true, false, cond, arith, refl, sym, ◌∙◌, ap, subst, Some, slice_get, filter, is_some, inl, inr, mul-le-mul_left}
-use Rattle.std.specs.Prelude.{ℤ, pos, ◌+ℤ◌, ◌≤ℤ◌, ◌&&◌, ◌||◌, ◌⊎◌, if◌then◌else◌}
+use Rattle.std.specs.Prelude.{ℤ, ◌&&◌, ◌||◌, ◌⊎◌, if◌then◌else◌}
 use Rattle.std.proofs.lemmas.Bool.{true≢false, and_parts}
-use Rattle.std.proofs.lemmas.Int.{ints}
 use Rattle.std.proofs.lemmas.List.{take_all}
 use Rattle.std.proofs.Math.Bool.{or-false, or_assoc}
 use Rattle.dri_base.specs.declared.scene.Window.{Window}
 use Rattle.dri_base.specs.declared.shape.Rect.{Rect}
-use Rattle.dri_base.specs.Ranges.{IsSide, WindowInRange}
 use Rattle.dri_rect.specs.Extents.{shared_by}
-use Rattle.dri_rect.specs.Pixels.{IsInRange, has_pixel, inside, least, most}
-use Rattle.dri_rect.specs.Walk.{greater_of, lesser_of}
+use Rattle.dri_rect.specs.Pixels.{has_pixel, inside}
 use Rattle.dri_rect.proofs.Bounds.{shared_pixels}
 use Rattle.dri_clips.specs.Areas.{has_named, in_area, is_reached, meets, meets_window, named_in, share_pixel}
 use Rattle.dri_clips.specs.Boards.{is_mapped}
@@ -108,29 +105,6 @@ cost_more p ws i j k start before after w e at was is = by (p w) is (count_more 
 
 pub cost_all : (p : Window → Bool) (ws : List Window) (i k start after : ℕ) → after ≤ start + k * length (filter p (take i ws)) → after ≤ start + k * length (filter p ws)
 cost_all p ws i k start after was = let d = count_take p ws i in let e : k * length (filter p (take i ws)) ≤ k * length (filter p ws) = grind (arith, mul-le-mul_left) in omega (arith, e, was)
-
--- what a window shares with the screen is in range
-greater_range : (a b l m : ℤ) → l ≤ℤ a → a ≤ℤ m → b ≤ℤ m → (l ≤ℤ greater_of a b) × (greater_of a b ≤ℤ m)
-greater_range a b l m e f g = (grind (arith, ints), grind (arith, ints))
-
-lesser_range : (a b l m : ℤ) → l ≤ℤ a → a ≤ℤ m → l ≤ℤ b → (l ≤ℤ lesser_of a b) × (lesser_of a b ≤ℤ m)
-lesser_range a b l m e f g = (grind (arith, ints), grind (arith, ints))
-
-pub shared_range : (screen : Rect) (w : Window) → IsInRange screen → WindowInRange w → IsInRange (shared_by screen (window_rect w))
-shared_range screen w s r = record {
-  left = greater_range screen.x1 w.x least most s.left.0 s.left.1 (omega (arith, ints, r.left));
-  top = greater_range screen.y1 w.y least most s.top.0 s.top.1 (omega (arith, ints, r.top));
-  right = lesser_range screen.x2 (w.x +ℤ pos w.width) least most s.right.0 s.right.1 (omega (arith, ints, r.left, r.wide));
-  bottom = lesser_range screen.y2 (w.y +ℤ pos w.height) least most s.bottom.0 s.bottom.1 (omega (arith, ints, r.top, r.high));
-}
-
-pub screen_range : (width height : ℕ) → IsSide width → IsSide height → IsInRange (screen_rect width height)
-screen_range width height a b = record {
-  left = (omega (arith, ints), omega (arith, ints));
-  top = (omega (arith, ints), omega (arith, ints));
-  right = (omega (arith, ints, a), omega (arith, ints, a));
-  bottom = (omega (arith, ints, b), omega (arith, ints, b));
-}
 
 -- a window that is met is reached
 meets_place : (rs : List Rect) (r : Rect) → meets rs r ≡ true → (x : ℤ) × ((y : ℤ) × ((inside rs x y && has_pixel r x y) ≡ true))

@@ -12,7 +12,7 @@ use Rattle.dri_clips.specs.declared.change.ChangeFault.TheVariants as Fault_is
 use Rattle.dri_clips.specs.declared.stamps.Restamped.{Restamped}
 use Rattle.dri_clips.specs.Boards.{IsRestacked}
 use Rattle.dri_clips.specs.Layouts.{IsRestamped, SameNumbers}
-use Rattle.dri_clips.specs.Refusals.{IsRefused, fault_of}
+use Rattle.dri_clips.specs.Refusals.{fault_of}
 use Rattle.dri_clips.proofs.Stamping.{all_stamps}
 
 pub restacked : (width height wide high : ℕ) (root : Rgb) (old new next : List Window) (stamps : List ℕ) (start : ℕ) (r : Restamped) → wide ≡ width → high ≡ height → next ≡ new → All WindowInRange old → SameNumbers old new → IsRestamped (is_touched width height old new) 65 start stamps r →
@@ -40,15 +40,6 @@ why_told Refusal.NoWindow = refl
 why_told Refusal.OutOfRange = refl
 why_told Refusal.AlreadyMapped = refl
 why_told Refusal.NotMapped = refl
-
-pub refused_so : {T : Type 0} (refusal : Option Refusal) (e : ChangeFault) (why : Refusal) → IsRefused refusal e → ◌≡◌ {A = Result T ChangeFault} (Err e) (Err (fault_of why)) ↔ (refusal ≡ Some why)
-refused_so {T} refusal e why r = (λ same. r.is ∙ sym (why_told r.why) ∙ ap why_of (sym r.told ∙ err_same e (fault_of why) same) ∙ why_told why, λ is. ap (λ f. Err f) (r.told ∙ ap fault_of (some_same r.why why (sym r.is ∙ is))))
-  where
-    err_same : (a b : ChangeFault) → ◌≡◌ {A = Result T ChangeFault} (Err a) (Err b) → a ≡ b
-    err_same a b h = cc
-
-    some_same : (a b : Refusal) → Some a ≡ Some b → a ≡ b
-    some_same a b h = cc
 
 none_some : {X : Type 0} (x : X) → None ≡ Some x → ⊥
 none_some x e = true≢false (ap (λ o. is_some o) (sym e))

@@ -35,15 +35,6 @@ use Rattle.dri_world.proofs.Stepping.{Kept, StepIn}
 use Rattle.dri_world.proofs.Seating.{AreAway, alone_away, apart_two, seated_on, seated_opening, seated_through}
 use Rattle.dri_world.proofs.Whose.{IsOf, turn_is_of}
 
--- no party's turn
-pub parties_none : (w : Course) → IsSound w → PartiesOn w w [] false
-parties_none w sound = record {
-  goes_on = record { scene = refl; events = sym (append-nil w.events) };
-  moves = (λ h. refl, λ h. refl);
-  less = omega arith;
-  sound = sound;
-}
-
 -- more parties' turns
 pub parties_join : (a b c : Course) (ps qs : List Party) (x y : Bool) → PartiesOn a b ps x → PartiesOn b c qs y → PartiesOn a c (ps ++ qs) (x || y)
 parties_join a b c ps qs x y first second = record {
@@ -89,15 +80,6 @@ group_on old new g a b current on = record { goes_on = subst (GoesOn old new) sa
   where
     same : party_played old.scene old.events (Alone a ∷ []) ≡ party_played old.scene old.events (Group g ∷ [])
     same = ap (λ o. one_event o ++ []) (ap (turn_of_some old.scene (core_of old)) (sym current))
-
-pub group_none : (w : Course) (g : Grouping) → IsSound w → current_after w.scene g w.events ≡ None → PartiesOn w w (Group g ∷ []) false
-group_none w g sound none = record { goes_on = subst (GoesOn w w) same on.goes_on; moves = subst (λ es. (false ≡ false) ↔ (es ≡ [])) same on.moves; less = on.less; sound = sound }
-  where
-    on : PartiesOn w w [] false
-    on = parties_none w sound
-
-    same : party_played w.scene w.events [] ≡ party_played w.scene w.events (Group g ∷ [])
-    same = ap (λ o. one_event o ++ []) (ap (turn_of_some w.scene (core_of w)) (sym none))
 
 -- the seat after a group's turn that made an event
 turned_did : (o : Option Event) (e : Event) → turned o ≡ Did e → o ≡ Some e
