@@ -85,8 +85,8 @@ fn later(a: i32, b: i32) -> i32
     if a < b { b } else { a }
 }
 
-/// The first column or row whose centre isn't before a place.
-fn first(place: i32) -> i32
+/// The first column or row whose centre isn't before a place of -32,768 to 32,767, in sixteenths of a pixel.
+pub fn first(place: i32) -> i32
     requires { IsVertexPlace place }
     ensures first { (n : ℤ) → (place ≤ℤ ((pos 16 *ℤ n) +ℤ pos 8)) ↔ (result ≤ℤ n) }
     ensures near { IsPixel result }

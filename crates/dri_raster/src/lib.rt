@@ -16,6 +16,7 @@ mod walk;
 
 pub use amid::covered_is_amid;
 pub use channel::Channel;
+pub use frame::first;
 pub use neighbours::common_edge;
 pub use runner::Runner;
 pub use setup::Setup;
