@@ -1,6 +1,6 @@
-//! Pixels that are carried: over themselves in each direction, two rectangles at once, none, and each refusal.
+//! Pixels that are carried: over themselves in each direction, two rectangles at once, and each refusal.
 
-ghost use Rattle.std.specs.Prelude.{◌≡◌, ◌≤◌, ◌+◌};
+ghost use Rattle.std.specs.Prelude.{◌≡◌};
 
 use dri_base::{Changes, Clients, ClipRect, Items, Rgb, Scene, Steps, Windows};
 use dri_card::{Card, OutsideCard};
@@ -81,123 +81,71 @@ fn carry_one<L: Ledger, R: Abort>(
     card.carry(&[rect], dx, dy, steps)
 }
 
-/// The places whose pixels stand at each place after one rectangle is carried.
-fn overlapping<L: Ledger, R: Abort>(rt: &R, alloc: Global, blank: Blank) -> Result<(), Fail>
-    requires name { blank.name ≡ L.name }
-    requires parts { blank.parts ≡ L.parts }
-    requires one { L.parts ≡ 1 }
-{
-    let mut steps = Steps::<L>::new(blank);
-    let mut card = card(rt, alloc)?;
-    let rows = [
-        (rect(0, 0, 2, 3), (1, 0), [0, 0, 1, 3, 3, 4, 6, 6, 7]),
-        (rect(1, 0, 3, 3), (-1, 0), [1, 2, 2, 4, 5, 5, 7, 8, 8]),
-        (rect(0, 0, 3, 2), (0, 1), [0, 1, 2, 0, 1, 2, 3, 4, 5]),
-        (rect(0, 1, 3, 3), (0, -1), [3, 4, 5, 6, 7, 8, 6, 7, 8]),
-        (rect(0, 0, 2, 2), (1, 1), [0, 1, 2, 3, 0, 1, 6, 3, 4]),
-        (rect(0, 0, 3, 3), (0, 0), [0, 1, 2, 3, 4, 5, 6, 7, 8]),
-    ];
-    for (rect, by, places) in &rows {
-        draw_places(rt, &mut card, &mut steps);
-        assert!(rt; carry_one(rt, &mut card, *rect, *by, &mut steps).is_ok());
-        expect_places(rt, &card, places);
-    }
-    Ok(())
-}
+/// Where the pixels stand that aren't carried.
+const HOME: [u8; 9] = [0, 1, 2, 3, 4, 5, 6, 7, 8];
 
-#[test]
-fn over_itself(rt: HostRuntime) -> Result<(), Fail> {
-    overlapping::<Brand, _>(&rt, rt.alloc(), Blank::new(1))
-}
+/// A rectangle (x1, y1, x2, y2), how far it is carried, and the places whose pixels stand at each place then. There are none
+/// where it is refused: it lies beyond a side, before it is moved or after, or its sides are the wrong way round.
+const ROWS: [([u16; 4], (i32, i32), Option<[u8; 9]>); 14] = [
+    ([0, 0, 2, 3], (1, 0), Some([0, 0, 1, 3, 3, 4, 6, 6, 7])),
+    ([1, 0, 3, 3], (-1, 0), Some([1, 2, 2, 4, 5, 5, 7, 8, 8])),
+    ([0, 0, 3, 2], (0, 1), Some([0, 1, 2, 0, 1, 2, 3, 4, 5])),
+    ([0, 1, 3, 3], (0, -1), Some([3, 4, 5, 6, 7, 8, 6, 7, 8])),
+    ([0, 0, 2, 2], (1, 1), Some([0, 1, 2, 3, 0, 1, 6, 3, 4])),
+    ([0, 0, 3, 3], (0, 0), Some(HOME)),
+    ([2, 0, 4, 1], (0, 0), None),
+    ([0, 2, 1, 4], (0, 0), None),
+    ([2, 0, 1, 1], (0, 0), None),
+    ([0, 2, 1, 1], (0, 0), None),
+    ([0, 1, 1, 2], (-1, 0), None),
+    ([1, 0, 2, 1], (0, -1), None),
+    ([2, 1, 3, 2], (1, 0), None),
+    ([1, 2, 2, 3], (0, 1), None),
+];
 
-/// A column of the card.
-fn column(at: u16) -> ClipRect
-    requires { at ≤ 3 }
-    ensures left { result.x1 ≡ at }
-    ensures right { result.x2 ≡ at + 1 }
-{
-    rect(at, 0, at + 1, SIDE)
-}
-
-/// Carries two neighbouring columns.
-fn carry_two<L: Ledger, R: Abort>(
+/// Carries one rectangle, and compares the answer.
+fn carries<L: Ledger, R: Abort>(
     rt: &R,
     card: &mut Card,
-    at: u16,
-    dx: i32,
+    [x1, y1, x2, y2]: [u16; 4],
+    by: (i32, i32),
+    is_carried: bool,
     steps: &mut Steps<L>,
-) -> Result<(), OutsideCard> {
-    assert!(rt; at <= 2 && -1 <= dx && dx <= 1);
-    card.carry(&[column(at), column(at + 1)], dx, 0, steps)
+) {
+    let rect = rect(x1, y1, x2, y2);
+    let right = if is_carried {
+        Ok(())
+    } else {
+        Err(OutsideCard::Clip { rect })
+    };
+    assert!(rt; carry_one(rt, card, rect, by, steps) == right);
 }
 
-/// The first of two columns is laid where the second was, and the first that doesn't stay is named.
-fn two_columns<L: Ledger, R: Abort>(rt: &R, alloc: Global, blank: Blank) -> Result<(), Fail>
+/// Carries the first two columns by one.
+fn carry_two<L: Ledger>(card: &mut Card, steps: &mut Steps<L>) -> bool {
+    let columns = [rect(0, 0, 1, SIDE), rect(1, 0, 2, SIDE)];
+    card.carry(&columns, 1, 0, steps).is_ok()
+}
+
+fn carry_each<L: Ledger, R: Abort>(rt: &R, alloc: Global, blank: Blank) -> Result<(), Fail>
     requires name { blank.name ≡ L.name }
     requires parts { blank.parts ≡ L.parts }
     requires one { L.parts ≡ 1 }
 {
     let mut steps = Steps::<L>::new(blank);
     let mut card = card(rt, alloc)?;
-    draw_places(rt, &mut card, &mut steps);
-    assert!(rt; card.carry(&[], 1, 1, &mut steps).is_ok());
-    expect_places(rt, &card, &[0, 1, 2, 3, 4, 5, 6, 7, 8]);
-    let rows = [
-        (0, 1, None, [0, 0, 1, 3, 3, 4, 6, 6, 7]),
-        (1, -1, None, [1, 2, 2, 4, 5, 5, 7, 8, 8]),
-        (0, -1, Some(0), [0, 1, 2, 3, 4, 5, 6, 7, 8]),
-        (1, 1, Some(2), [0, 1, 2, 3, 4, 5, 6, 7, 8]),
-        (2, 1, Some(2), [0, 1, 2, 3, 4, 5, 6, 7, 8]),
-        (2, 0, Some(3), [0, 1, 2, 3, 4, 5, 6, 7, 8]),
-    ];
-    for (at, dx, off, places) in &rows {
+    for (rect, by, places) in &ROWS {
         draw_places(rt, &mut card, &mut steps);
-        let answer = carry_two(rt, &mut card, *at, *dx, &mut steps);
-        let named = match off {
-            Some(at) => Err(OutsideCard::Clip {
-                rect: rect(*at, 0, *at % 4 + 1, SIDE),
-            }),
-            None => Ok(()),
-        };
-        assert!(rt; answer == named);
-        expect_places(rt, &card, places);
+        carries(rt, &mut card, *rect, *by, places.is_some(), &mut steps);
+        expect_places(rt, &card, &places.unwrap_or(HOME));
     }
-    Ok(())
-}
-
-#[test]
-fn two_columns_at_once(rt: HostRuntime) -> Result<(), Fail> {
-    two_columns::<Brand, _>(&rt, rt.alloc(), Blank::new(1))
-}
-
-/// A rectangle beyond each side, before it is moved or after, and one whose sides are the wrong way round.
-fn refusals<L: Ledger, R: Abort>(rt: &R, alloc: Global, blank: Blank) -> Result<(), Fail>
-    requires name { blank.name ≡ L.name }
-    requires parts { blank.parts ≡ L.parts }
-    requires one { L.parts ≡ 1 }
-{
-    let mut steps = Steps::<L>::new(blank);
-    let mut card = card(rt, alloc)?;
     draw_places(rt, &mut card, &mut steps);
-    let rows = [
-        (rect(2, 0, 4, 1), (0, 0)),
-        (rect(0, 2, 1, 4), (0, 0)),
-        (rect(2, 0, 1, 1), (0, 0)),
-        (rect(0, 2, 1, 1), (0, 0)),
-        (rect(0, 1, 1, 2), (-1, 0)),
-        (rect(1, 0, 2, 1), (0, -1)),
-        (rect(2, 1, 3, 2), (1, 0)),
-        (rect(1, 2, 2, 3), (0, 1)),
-    ];
-    for (rect, by) in &rows {
-        let off = OutsideCard::Clip { rect: *rect };
-        assert!(rt; carry_one(rt, &mut card, *rect, *by, &mut steps) == Err(off));
-    }
-    expect_places(rt, &card, &[0, 1, 2, 3, 4, 5, 6, 7, 8]);
+    assert!(rt; carry_two(&mut card, &mut steps));
+    expect_places(rt, &card, &[0, 0, 1, 3, 3, 4, 6, 6, 7]);
     Ok(())
 }
 
 #[test]
-fn beyond_each_side(rt: HostRuntime) -> Result<(), Fail> {
-    refusals::<Brand, _>(&rt, rt.alloc(), Blank::new(1))
+fn rows(rt: HostRuntime) -> Result<(), Fail> {
+    carry_each::<Brand, _>(&rt, rt.alloc(), Blank::new(1))
 }

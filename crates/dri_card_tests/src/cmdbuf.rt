@@ -62,13 +62,6 @@ fn fills_and_reads_back(rt: HostRuntime) {
 #[test]
 fn goes_wrong(rt: HostRuntime) {
     assert!(rt; decode(&[0x5400_0003]).err() == Some(BadWord { at: 1, word: 0 }));
-    assert!(rt;
-        decode(&[0x5400_0004]).err()
-            == Some(BadWord {
-                at: 0,
-                word: 0x5400_0004
-            })
-    );
     let mut buffer = Buffer::new();
     assert!(rt; buffer.push_triangle(&triangle()).is_ok());
     assert!(rt; buffer.push_triangle(&triangle()).is_ok());
@@ -82,6 +75,6 @@ fn goes_wrong(rt: HostRuntime) {
             at: place as u32,
             word: 0xffff_ffff,
         };
-        assert!(rt; decode(&words).err() == bad.then_some(fault), "at {place}");
+        assert!(rt; decode(&words).err() == bad.then_some(fault));
     }
 }

@@ -77,9 +77,13 @@ const WRONG: [(&[u32], u32, u32); 7] = [
 
 #[test]
 fn wrong_words(rt: HostRuntime) {
-    for (words, at, word) in WRONG {
+    for (words, at, word) in &WRONG {
         let mut registers = opening();
-        assert!(rt; registers.apply(words) == Err(BadWord { at, word }));
+        let bad = BadWord {
+            at: *at,
+            word: *word,
+        };
+        assert!(rt; registers.apply(words) == Err(bad));
         assert!(rt; registers.scissor.is_none());
     }
 }

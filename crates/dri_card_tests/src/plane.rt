@@ -27,18 +27,16 @@ fn call_each<L: Ledger, R: Abort>(rt: &R, alloc: Global, blank: Blank) -> Result
         y2: 1,
     };
     plane.move_within(alloc, &[left], 1, 0, &mut steps)?;
-    assert_eq!(rt; plane.pixels(), [1, 1, 2].as_slice());
-    assert_eq!(rt; plane.get(2, 0, &mut steps), 2);
+    assert!(rt; plane.pixels() == [1, 1, 2].as_slice() && plane.get(2, 0, &mut steps) == 2);
     plane.fill(&left, 7, &mut steps);
-    assert_eq!(rt; plane.pixels(), [7, 7, 2].as_slice());
     plane.copy_from(&saved, &left, &mut steps);
-    assert_eq!(rt; plane.pixels(), [9, 9, 2].as_slice());
+    assert!(rt; plane.pixels() == [9, 9, 2].as_slice());
     let mut lifted = Lifted::new(alloc, 2)?;
     plane.read_out(&[left], &mut lifted, &mut steps);
     plane.fill(&left, 7, &mut steps);
     plane.write_in(&[left], 1, 0, &lifted, &mut steps);
-    assert_eq!(rt; plane.pixels(), [7, 9, 9].as_slice());
-    assert_eq!(rt; (plane.width(), plane.height()), (3, 1));
+    assert!(rt; plane.pixels() == [7, 9, 9].as_slice());
+    assert!(rt; plane.width() == 3 && plane.height() == 1);
     Ok(())
 }
 

@@ -74,8 +74,8 @@ const DRAWN: [(DepthFunc, [bool; 3]); 8] = [
 
 #[test]
 fn depths(rt: HostRuntime) {
-    for (depth_func, drawn) in DRAWN {
-        draw_round_the_depth(&rt, depth_func, drawn);
+    for (depth_func, drawn) in &DRAWN {
+        draw_round_the_depth(&rt, *depth_func, *drawn);
     }
     assert!(rt; fragment(&PLAIN, None, COLOUR, 7, UNDER).depth == 7);
     pixel_rule();
@@ -95,14 +95,14 @@ const COLOURS: [(TexMode, Option<Rgb>, Blend, [u8; 3]); 8] = [
 
 #[test]
 fn colours(rt: HostRuntime) {
-    for (tex_mode, texel, blend, [r, g, b]) in COLOURS {
+    for (tex_mode, texel, blend, [r, g, b]) in &COLOURS {
         let registers = RegisterView {
-            blend,
-            tex_mode,
+            blend: *blend,
+            tex_mode: *tex_mode,
             ..PLAIN
         };
-        let left = fragment(&registers, texel, COLOUR, 500, UNDER);
-        assert!(rt; left.colour == rgb(r, g, b));
+        let left = fragment(&registers, *texel, COLOUR, 500, UNDER);
+        assert!(rt; left.colour == rgb(*r, *g, *b));
     }
 }
 
@@ -132,7 +132,7 @@ const TEXELS: [(Wrap, u32, u32, [u8; 3]); 7] = [
 #[test]
 fn texels(rt: HostRuntime) {
     assert!(rt; fetch(&MEMORY, 0, &GREY, Wrap::Repeat, 5, 99) == rgb(9, 9, 9));
-    for (wrap, s, t, [r, g, b]) in TEXELS {
-        assert!(rt; fetch(&MEMORY, 1, &COLOURED, wrap, s, t) == rgb(r, g, b));
+    for (wrap, s, t, [r, g, b]) in &TEXELS {
+        assert!(rt; fetch(&MEMORY, 1, &COLOURED, *wrap, *s, *t) == rgb(*r, *g, *b));
     }
 }
