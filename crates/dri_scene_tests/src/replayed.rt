@@ -104,9 +104,9 @@ fn replayed(rt: HostRuntime) -> Result<(), Fail> {
     let scene = read_scene(rt.alloc(), SCENE)?;
     let entries = read_journal(rt.alloc(), JOURNAL)?;
     let mut replay = Replay::new(rt.alloc(), &scene)?;
-    for (entry, answer) in entries.as_slice().iter().zip(ANSWERS) {
+    for (entry, answer) in entries.as_slice().iter().zip(&ANSWERS) {
         let given = replay.step(rt.alloc(), entry);
-        assert!(rt; is_answer(&given, &answer));
+        assert!(rt; is_answer(&given, answer));
     }
     assert!(rt; replay.is_whole());
     Ok(())
