@@ -6,8 +6,6 @@ mod beside;
 #[cfg(test)]
 mod between;
 #[cfg(test)]
-mod deaths;
-#[cfg(test)]
 mod ends;
 #[cfg(test)]
 mod run;

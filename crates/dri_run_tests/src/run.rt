@@ -12,11 +12,10 @@ const ROOT: &str = "dri 1\nscreen 1 1 000040\nheap 1 256\ndone\n";
 
 /// A client's frame in a window of the whole screen: what stands before its triangle, the triangle, and what stands after
 /// it.
-pub(crate) const CLEARED: &str =
+const CLEARED: &str =
     "dri 1\n#a window and a client\nscreen 4 4 000040\nheap 1 256\nwindow 1 0 0 4 4 101010 1 up\n\nclient 1 1\nclear 000000 65535\n";
 
-pub(crate) const TRIANGLE: &str =
-    "triangle 0 0 0 ff0000ff 0 0 64 0 0 ff0000ff 0 0 0 64 0 ff0000ff 0 0\n";
+const TRIANGLE: &str = "triangle 0 0 0 ff0000ff 0 0 64 0 0 ff0000ff 0 0 0 64 0 ff0000ff 0 0\n";
 
 const SWAPPED: &str = "swap\nend\ndone\n";
 
@@ -29,16 +28,12 @@ pub(crate) const TRIANGLE_PIXELS: &[u8] =
 pub(crate) const TRIANGLE_JOURNAL: &str =
     "journal 1\nkernel 1 1\nstale 1\nleave 1\ninfo 1\nkernel 1 1\nrun 1 1\nemit 1 127\nrun 1 2\nrun 1 3\nleave 1\ndone\n";
 
-/// Two frames of one client, and what may stand behind its block.
-pub(crate) const FRAMES: &str =
+/// Two frames of one client.
+const FRAMES: &str =
     "dri 1\nscreen 2 1 000000\nheap 1 256\nwindow 1 0 0 2 1 111111 1 up\nclient 1 1\nclear ff0000 65535\nswap\nclear 0000ff 65535\nswap\nend\n";
 
 const FRAMES_JOURNAL: &str =
     "journal 1\nkernel 1 1\nstale 1\nleave 1\ninfo 1\nkernel 1 1\nrun 1 1\nrun 1 2\nleave 1\nlight 1\nrun 1 3\nrun 1 4\nleave 1\ndone\n";
-
-/// Two clients, one of which waits.
-pub(crate) const WAITING: &str =
-    "dri 1\nscreen 4 2 000000\nheap 1 256\nwindow 1 0 0 2 2 111111 1 up\nwindow 2 2 0 2 2 222222 2 up\nclient 1 1\nclear ff0000 65535\ntriangle 0 0 0 0000ffff 0 0 64 0 0 0000ffff 0 0 0 64 0 0000ffff 0 0\ntriangle 0 0 0 ffffffff 0 0 64 0 0 ffffffff 0 0 0 64 0 ffffffff 0 0\nswap\nend\nclient 2 2\nclear 00ff00 65535\nswap\nend\n";
 
 /// Two clients of one frame each, side by side.
 const PAIR: &str =
@@ -52,12 +47,7 @@ const PAIR_JOURNAL: &str =
 
 const ROOT_PIXELS: &[u8] = b"P6\n1 1\n255\n\x00\x00\x40";
 
-pub(crate) const BLACK_PIXELS: &[u8] = b"P6\n2 1\n255\n\x00\x00\x00\x00\x00\x00";
-
-pub(crate) const BLUE_PIXELS: &[u8] = b"P6\n2 1\n255\n\x00\x00\xff\x00\x00\xff";
-
-pub(crate) const KILLED_PIXELS: &[u8] =
-    b"P6\n4 2\n255\n\x00\x00\x00\x00\x00\x00\x00\xff\x00\x00\xff\x00\x00\x00\x00\x00\x00\x00\x00\xff\x00\x00\xff\x00";
+const BLUE_PIXELS: &[u8] = b"P6\n2 1\n255\n\x00\x00\xff\x00\x00\xff";
 
 /// The parts of a text.
 pub(crate) type Text = &'static [&'static str];
@@ -76,7 +66,7 @@ pub(crate) struct Case(
 
 pub(crate) const PLAYED: &[&str] = &["turns"];
 
-pub(crate) const CHECKED: &[&str] = &["check"];
+const CHECKED: &[&str] = &["check"];
 
 const ALONE: &[&str] = &["solo", "1", "1"];
 
@@ -198,7 +188,7 @@ const READ: usize = 10;
 pub(crate) const WRITTEN: usize = 7;
 
 /// The list of one call, or of none.
-pub(crate) fn calls(alloc: Global, call: u64) -> Result<CallList, Fail> {
+fn calls(alloc: Global, call: u64) -> Result<CallList, Fail> {
     let mut list = CallList::new(alloc);
     if call > 0 {
         list.push(call)?;
@@ -207,7 +197,7 @@ pub(crate) fn calls(alloc: Global, call: u64) -> Result<CallList, Fail> {
 }
 
 /// The words of a command line.
-pub(crate) fn words_of(alloc: Global, line: &[&str]) -> Result<Vec<String>, Fail> {
+fn words_of(alloc: Global, line: &[&str]) -> Result<Vec<String>, Fail> {
     let mut words = Vec::new(alloc);
     for word in line {
         words.push(String::from_str(alloc, word)?)?;

@@ -1,8 +1,8 @@
 //! Clients in threads, and one that dies in its hold.
 
-use dri_base::{Entry, Rgb};
+use dri_base::Entry;
 use dri_scene::read_scene;
-use dri_threads::{AlwaysOpen, Closed, Gate, GatePoint, run_clients};
+use dri_threads::{Closed, Gate, GatePoint, run_clients};
 use std::alloc::Global;
 use std::sync::atomic::{AtomicU32, Ordering};
 use std::sync::{Arc, Wait};
@@ -97,22 +97,6 @@ fn one_dies_while_others_wait(rt: HostRuntime) -> Result<(), Fail> {
     assert!(rt; 7 < journal.len());
     for (i, entry) in DYING.iter().enumerate() {
         assert!(rt; journal[i] == *entry);
-    }
-    Ok(())
-}
-
-/// All frames stand, whatever the order of the holds, and the window of the dead client is unmapped.
-#[test]
-fn all_end(rt: HostRuntime) -> Result<(), Fail> {
-    for _ in 0..20 {
-        let Closed { shared, short } = run(&rt, rt.alloc(), &AlwaysOpen)?;
-        assert!(rt; !short);
-        assert!(rt; shared.holder().is_none());
-        let row = shared.front().pixels();
-        assert!(rt; 4 < row.len());
-        assert!(rt; row[0] == Rgb { r: 255, g: 0, b: 0 });
-        assert!(rt; row[2] == Rgb { r: 0, g: 0, b: 0 });
-        assert!(rt; row[4] == Rgb { r: 0, g: 0, b: 255 });
     }
     Ok(())
 }

@@ -3,8 +3,6 @@
 #![tactic(auto)]
 
 #[cfg(test)]
-mod groups;
-#[cfg(test)]
 mod meaning;
 #[cfg(test)]
 mod world;

@@ -9,13 +9,13 @@ use std::process::Abort;
 use std::sync::Arc;
 use std::test::Fail;
 
-pub(crate) const BLACK: Rgb = Rgb { r: 0, g: 0, b: 0 };
+const BLACK: Rgb = Rgb { r: 0, g: 0, b: 0 };
 
-pub(crate) const RED: Rgb = Rgb { r: 255, g: 0, b: 0 };
+const RED: Rgb = Rgb { r: 255, g: 0, b: 0 };
 
-pub(crate) const GREEN: Rgb = Rgb { r: 0, g: 255, b: 0 };
+const GREEN: Rgb = Rgb { r: 0, g: 255, b: 0 };
 
-pub(crate) const WHITE: Rgb = Rgb {
+const WHITE: Rgb = Rgb {
     r: 255,
     g: 255,
     b: 255,
@@ -159,7 +159,7 @@ const CASES: [Case; 9] = [
 const MOST_BYTES: usize = 4096;
 
 /// The scene of a text.
-pub(crate) fn scene(rt: &impl Abort, alloc: Global, parts: &[&str]) -> Result<Scene, Fail> {
+fn scene(rt: &impl Abort, alloc: Global, parts: &[&str]) -> Result<Scene, Fail> {
     let mut text = Vec::new(alloc);
     for part in parts {
         text.extend_from_slice(part.as_bytes())?;
@@ -191,7 +191,7 @@ fn play(
 }
 
 /// Compares pixels of the screen.
-pub(crate) fn shows(rt: &impl Abort, world: &World, pixels: &[(usize, Rgb)]) {
+fn shows(rt: &impl Abort, world: &World, pixels: &[(usize, Rgb)]) {
     for (at, colour) in pixels {
         assert!(rt; world.front().pixels().get(*at).copied() == Some(*colour));
     }
@@ -200,10 +200,9 @@ pub(crate) fn shows(rt: &impl Abort, world: &World, pixels: &[(usize, Rgb)]) {
 /// Compares what a world answers with the case.
 fn answers(rt: &impl Abort, alloc: Global, world: &World, case: &Case) -> Result<(), OutOfMemory> {
     let journal = print_journal(alloc, world.journal())?;
-    assert!(rt; journal.as_slice() == case.journal.as_bytes());
-    shows(rt, world, case.pixels);
     let area = world.sarea(alloc)?;
-    assert!(rt; area.word() == world.word());
+    assert!(rt; journal.as_slice() == case.journal.as_bytes() && area.word() == world.word());
+    shows(rt, world, case.pixels);
     Ok(())
 }
 
