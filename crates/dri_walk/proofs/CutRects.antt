@@ -53,7 +53,7 @@ window_cut w r width height a b c1 c2 c3 c4 la lb =
     rw (between 0 width r.x1 r.x2 a _ _ c1 c3 (omega arith) la, between 0 height r.y1 r.y2 b _ _ c2 c4 (omega arith) lb) refl
 
 -- the columns, or the rows, of a clip that lie in a scissor
-narrowed_side : (low high p q k : ℕ) (s t o : ℤ) → low ≤ p → q ≤ high → Cuts low high p (s +ℤ o) → Cuts p high q (t +ℤ o)
+pub narrowed_side : (low high p q k : ℕ) (s t o : ℤ) → low ≤ p → q ≤ high → Cuts low high p (s +ℤ o) → Cuts p high q (t +ℤ o)
     → (nat_le p k && nat_lt k q) ≡ ((nat_le low k && nat_lt k high) && (int_le s (pos k -ℤ o) && int_lt (pos k -ℤ o) t))
 narrowed_side low high p q k s t o from to cuts cuts' = by (nat_le low k) (nat_lt k high) refl refl where
   inner : (b : Bool) → low ≤ k → k < high → nat_le p k ≡ b → (b && nat_lt k q) ≡ (b && int_lt (pos k) (t +ℤ o))
