@@ -4,3 +4,9 @@ pub mod Shown
 pub mod Planes
 pub mod AsEver
 pub mod Good16
+-- The parts of a line, and its pixels
+pub mod LineParts
+pub mod LineDots
+pub mod LinePlaces
+pub mod LineColumns
+pub mod LineNumbers

@@ -1,6 +1,8 @@
 -- Colours in sixteen bits, and lines
 pub mod Packing
 pub mod Lines
+pub mod Dots
+pub mod LineExamples
 -- Any card's pixel rule: frames alone, and runs
 pub mod PixelRules
 pub mod RuleRuns

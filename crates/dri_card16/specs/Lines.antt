@@ -1,23 +1,20 @@
 -- Lines: what a card that has them draws of a triangle whose second and third vertices stand at one place.
-use Rattle.std.specs.Prelude.{ℕ, ◌/◌, ℤ, pos, ◌+ℤ◌, ◌-ℤ◌, ◌*ℤ◌, Bool, false, true, not, ◌&&◌, nat_le, int_le, int_lt, nat_abs, if◌then◌else◌, Option}
+use Rattle.std.specs.Prelude.{ℕ, zero, suc, ◌+◌, ◌/◌, ℤ, pos, ◌+ℤ◌, ◌-ℤ◌, ◌*ℤ◌, Bool, true, false, not, ◌&&◌, nat_le, int_le, int_lt, nat_abs, if◌then◌else◌, Option}
 use Rattle.std.specs.Ordering.{int_eq}
 use Rattle.std.specs.Int.{int_div_euclid}
 use Rattle.dri_base.specs.declared.colour.Rgba.{Rgba}
 use Rattle.dri_base.specs.declared.colour.Pixel.{Pixel}
+use Rattle.dri_base.specs.declared.shape.ClipRect.{ClipRect}
+use Rattle.dri_base.specs.declared.shape.Point.{Point}
 use Rattle.dri_base.specs.declared.shape.Triangle.{Triangle}
 use Rattle.dri_base.specs.declared.shape.Vertex.{Vertex}
 use Rattle.dri_base.specs.declared.state.Shade.{Shade}
 use Rattle.dri_base.specs.declared.state.Shade.TheVariants as Shade_is
 use Rattle.dri_base.specs.Fragments.{Rules, in_scissor, passes, written}
+use Rattle.dri_base.specs.Planes.{in_rect}
 use Rattle.dri_base.specs.Texels.{Image}
 use Rattle.dri_texel.specs.Pixels.{coloured, texel_used}
-
--- a line that is laid along x, from its lower end to its upper one, and the colour that it has where it is flat
-pub record Line : Type 0 where
-  pub first : Vertex
-  pub last : Vertex
-  pub x_major : Bool
-  pub flat : Rgba
+use Rattle.dri_card16.specs.declared.line.Line.{Line}
 
 -- the triangle is a line: its second and third vertices stand at one place, and its first at another
 abbrev pub is_line : Triangle → Bool
@@ -109,3 +106,23 @@ left_on kept r image l x y under =
 -- what is kept of the pair that a triangle's line leaves at the window's pixel (x, y), by the pixel rule; the pair under it where it draws nothing
 abbrev pub line_fragment : (Pixel → Pixel) → Rules → Option Image → Triangle → ℤ → ℤ → Pixel → Pixel
 line_fragment kept r image t = left_on kept r image (line_of t)
+
+-- the pairs after a triangle's line, drawn so in a clip of the screen; the window's pixel is the screen's less the origin
+abbrev pub after_line : (Pixel → Pixel) → Rules → Option Image → Triangle → ClipRect → Point → (ℕ → ℕ → Pixel) → ℕ → ℕ → Pixel
+after_line kept r image t clip origin f x y = if in_rect clip x y then line_fragment kept r image t (pos x -ℤ origin.x) (pos y -ℤ origin.y) (f x y) else f x y
+
+-- in column n of the screen, or row n where it is y-major, the line has a pixel in the clip
+abbrev pub has_place : Line → ClipRect → Point → ℕ → Bool
+has_place l clip origin n =
+    has_pixel l (pos n -ℤ along l origin.x origin.y)
+    && (int_le (pos (across l clip.x1 clip.y1)) (row_in l (pos n -ℤ along l origin.x origin.y) +ℤ across l origin.x origin.y)
+    && int_lt (row_in l (pos n -ℤ along l origin.x origin.y) +ℤ across l origin.x origin.y) (pos (across l clip.x2 clip.y2)))
+
+-- how many there are among the first columns, or rows, from the clip's first on
+abbrev pub places_in : Line → ClipRect → Point → ℕ → ℕ
+places_in l clip origin zero = 0
+places_in l clip origin (suc n) = places_in l clip origin n + (if nat_le (along l clip.x1 clip.y1) n && has_place l clip origin n then 1 else 0)
+
+-- how many places of the clip a triangle's line covers
+abbrev pub line_places : Triangle → ClipRect → Point → ℕ
+line_places t clip origin = places_in (line_of t) clip origin (along (line_of t) clip.x2 clip.y2)

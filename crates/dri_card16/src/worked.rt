@@ -40,7 +40,7 @@ pub fn each_time()
 
 /// A line of four pixels: in the third vertex's colour where it is flat, and else from the first's to the second's, which it doesn't
 /// reach. One that goes as far down as across goes by columns, not by rows. Where there are triangles alone nothing of it is drawn.
-pub fn line()
+pub fn four_pixels()
     ensures first { solo_frame16 (red_to_green [] 0) 1 (pos 0) (pos 0) ≡ Some (rgb 0 0xff 0) }
     ensures last { solo_frame16 (red_to_green [] 0) 1 (pos 3) (pos 0) ≡ Some (rgb 0 0xff 0) }
     ensures end { solo_frame16 (red_to_green [] 0) 1 (pos 4) (pos 0) ≡ Some (rgb 0 0 0) }
