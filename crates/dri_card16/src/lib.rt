@@ -1,6 +1,6 @@
-//! A card that keeps colours in sixteen bits and draws lines: what it leaves of a run, and of a frame drawn alone. These stand in
-//! this crate's specifications, of which most are for any card's pixel rule. The functions here do nothing, and their contracts
-//! are the laws.
+//! Towards a card that keeps colours in sixteen bits and draws lines: packed colours, the drawing of a line, and what such a card
+//! leaves of a run and of a frame drawn alone. The last stands in this crate's specifications, of which most are for any card's
+//! pixel rule; its laws are the contracts of functions that do nothing.
 #![tactic(auto)]
 
 mod line;
