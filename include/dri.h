@@ -2,13 +2,14 @@
  *
  * All calls. A text is a pointer and a length, read where it lies; a buffer is a pointer and a length too. A null pointer
  * stands for a text or a buffer of length 0. Otherwise a call needs that its pointers point to so many bytes, less than 2^63,
- * and `answer` to an answer, and that no buffer and no answer overlaps another argument of the call. It needs nothing of what
- * stands in them: any bytes are a text, and any number is tested.
+ * and `answer` and `played` to their structs, and that none of these and no buffer overlaps another argument of the call. It needs
+ * nothing of what stands in them: any bytes are a text, and any number is tested.
  *
  * Each call puts what the program writes to standard output at the begin of `picture`, and what it writes to standard error at the
  * begin of `notes`, each whole; a buffer without room for all of it stays as it was. `picture_needed` and `notes_needed` say how
  * many bytes there were to put. Behind the bytes put a buffer stays as it was. For every status but DRI_DONE and DRI_WRITE_FAULT
- * there is no picture, and the notes of all calls but dri_play are the status's line; where they have no room for it, the status stays.
+ * there is no picture, and the notes of all calls but dri_play are the status's line, which DRI_OUT_OF_MEMORY hasn't; where they
+ * have no room for it, the status stays.
  *
  * Threads. No call keeps anything or shares anything, so any thread may call at any time, also beside other calls, as long as
  * their buffers and answers are apart. No call waits. Memory comes from malloc, realloc and free, and all of it is given back
@@ -94,7 +95,7 @@ void dri_ring(uint32_t room, const uint8_t *recording, size_t recording_length, 
               uint8_t *notes, size_t notes_length, struct dri_answer *answer);
 
 /* Reads a scene and behind it groups of its clients. Plays the scene without its schedule in rounds of the groups; gives the screen
- * in the P6 form, and the journal. It refuses a text that isn't both. */
+ * in the P6 form, and the journal. It refuses a text that isn't both, its lines counted over both. */
 void dri_many(const uint8_t *grouped, size_t grouped_length, uint8_t *picture, size_t picture_length, uint8_t *notes,
               size_t notes_length, struct dri_answer *answer);
 
