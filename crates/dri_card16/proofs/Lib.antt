@@ -4,6 +4,10 @@ pub mod Shown
 pub mod Planes
 pub mod AsEver
 pub mod Good16
+-- What the card holds is seen widened
+pub mod Seen
+pub mod Packed
+pub mod Drawn16
 -- The parts of a line, and its pixels
 pub mod LineParts
 pub mod LineDots

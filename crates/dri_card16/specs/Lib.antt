@@ -8,5 +8,9 @@ pub mod PixelRules
 pub mod RuleRuns
 -- The card of sixteen bits
 pub mod Sixteen
+-- What the card holds, and what its calls make of it
+pub mod Widened
+pub mod Calls
+pub mod Invariants
 -- Scenes that were worked by hand
 pub mod Examples
