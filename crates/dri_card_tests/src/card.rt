@@ -18,7 +18,7 @@ use std::test::Fail;
 
 const BLACK: Rgb = Rgb { r: 0, g: 0, b: 0 };
 
-const RED: Rgb = Rgb { r: 255, g: 0, b: 0 };
+pub(crate) const RED: Rgb = Rgb { r: 255, g: 0, b: 0 };
 
 const GREEN: Rgb = Rgb { r: 0, g: 255, b: 0 };
 
@@ -44,7 +44,7 @@ const MIXED: Rgb = Rgb {
 const SEVEN: Rgb = Rgb { r: 7, g: 7, b: 7 };
 
 /// A rectangle of one row.
-fn row(x1: u16, x2: u16) -> ClipRect {
+pub(crate) fn row(x1: u16, x2: u16) -> ClipRect {
     ClipRect {
         x1,
         y1: 0,
@@ -54,7 +54,7 @@ fn row(x1: u16, x2: u16) -> ClipRect {
 }
 
 /// A window's number, its left column, its width and its background.
-type Placed = (u32, i32, u32, Rgb);
+pub(crate) type Placed = (u32, i32, u32, Rgb);
 
 fn window(number: u32, x: i32, width: u32, background: Rgb) -> Window {
     Window {
@@ -70,7 +70,7 @@ fn window(number: u32, x: i32, width: u32, background: Rgb) -> Window {
 }
 
 /// A screen of one black row with windows.
-fn scene(alloc: Global, width: u32, windows: &[Placed]) -> Result<Scene, OutOfMemory> {
+pub(crate) fn scene(alloc: Global, width: u32, windows: &[Placed]) -> Result<Scene, OutOfMemory> {
     let mut scene = Scene {
         width,
         height: 1,
@@ -116,7 +116,7 @@ fn triangle(colour: Rgba) -> Triangle
     }
 }
 
-fn buffer<R: Abort>(rt: &R, triangle: &Triangle) -> Buffer
+pub(crate) fn buffer<R: Abort>(rt: &R, triangle: &Triangle) -> Buffer
     requires { TriangleInRange triangle.now }
 {
     let mut buffer = Buffer::new();
@@ -180,7 +180,7 @@ fn perform<L: Ledger, R: Abort>(
 }
 
 /// Colours of triangles.
-const SOLID: Rgba = Rgba {
+pub(crate) const SOLID: Rgba = Rgba {
     r: 0,
     g: 255,
     b: 0,

@@ -4,6 +4,8 @@
 #[cfg(test)]
 mod card;
 #[cfg(test)]
+mod card16;
+#[cfg(test)]
 mod carry;
 #[cfg(test)]
 mod cmdbuf;
