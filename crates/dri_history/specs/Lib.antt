@@ -1,0 +1,5 @@
+pub mod Touches
+pub mod Histories
+pub mod Follows
+
+-- pub mod Afters
