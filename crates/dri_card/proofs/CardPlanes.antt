@@ -1,5 +1,5 @@
 -- What the card's calls make of its planes.
-use Rattle.std.proofs.Common.{◌≡◌, ℕ, ◌+◌, ◌≤◌, List, [], ◌∷◌, ◌++◌, take, length, fold, add-one, Bool, true, false, if◌then◌else◌, Some, pos, ◌-ℤ◌, refl, sym, ap, ◌∙◌, subst}
+use Rattle.std.proofs.Common.{◌≡◌, ℕ, ◌+◌, ◌≤◌, List, [], ◌∷◌, ◌++◌, take, length, fold, add-one, Bool, true, false, if◌then◌else◌, Some, pos, ◌-ℤ◌, refl, sym, ap, ◌∙◌}
 use Rattle.std.proofs.lemmas.List.{take_all}
 use Rattle.std.proofs.lemmas.List.Sums.{fold-append}
 use Rattle.std.proofs.lemmas.Option.{get_or_from_slice_get, slice_get_within}
@@ -38,24 +38,9 @@ triangles_more old mid new origin ts i t f only is holds = pairs_same new.back n
   by x y true = sym (ap (λ us. fold (λ under s. drawn old s (pos x -ℤ origin.x) (pos y -ℤ origin.y) under) (f x y) us) longer
       ∙ fold-append (λ under s. drawn old s (pos x -ℤ origin.x) (pos y -ℤ origin.y) under) (f x y) (take i ts) (t ∷ []))
 
--- no triangle, and all of them
-pub triangles_none : (v : Contents) (origin : Point) (f : ℕ → ℕ → Pixel) → Holds v f → Holds v (after_triangles v origin [] f)
-triangles_none v origin f holds = pairs_same v.back v.depth _ _ (λ x y. by x y (in_rect v.clip x y)) holds where
-  by : (x y : ℕ) (b : Bool) → f x y ≡ (if b then f x y else f x y)
-  by x y true = refl
-  by x y false = refl
-
-pub triangles_all : (old new : Contents) (origin : Point) (ts : List Triangle) (i : ℕ) (f : ℕ → ℕ → Pixel) → length ts ≤ i
-    → Holds new (after_triangles old origin (take i ts) f) → Holds new (after_triangles old origin ts f)
-triangles_all old new origin ts i f all holds = subst (λ us. Holds new (after_triangles old origin us f)) (take_all i ts all) holds
-
 -- planes alone that are drawn on twice
 pub drawn_twice : (old mid new : Contents) → OnlyDrawn old mid → OnlyDrawn mid new → OnlyDrawn old new
 drawn_twice old mid new first second = second ∙ ap (λ (v : Contents). record v { back = new.back; depth = new.depth }) first
-
--- one triangle alone
-pub triangle_alone : (old new : Contents) (origin : Point) (t : Triangle) (f : ℕ → ℕ → Pixel) → Holds new (after_triangles old origin (t ∷ []) f) → Holds new (after_triangle old origin t f)
-triangle_alone old new origin t f holds = holds
 
 -- the centres of one triangle more, on a card of the same clip
 pub centres_more : (old mid : Contents) (origin : Point) (ts : List Triangle) (i : ℕ) (t : Triangle) → OnlyDrawn old mid → slice_get ts i ≡ Some t

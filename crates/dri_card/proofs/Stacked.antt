@@ -1,5 +1,5 @@
 -- Windows that are painted over those below them.
-use Rattle.std.proofs.Common.{◌≡◌, ℕ, List, ◌∷◌, Bool, true, false, ◌&&◌, if◌then◌else◌, Some, refl, sym, ap, ◌∙◌}
+use Rattle.std.proofs.Common.{◌≡◌, ℕ, List, ◌∷◌, Bool, true, false, if◌then◌else◌, refl, ap, ◌∙◌}
 use Rattle.dri_base.specs.declared.colour.Rgb.{Rgb}
 use Rattle.dri_base.specs.declared.scene.Window.{Window}
 use Rattle.dri_base.specs.declared.shape.ClipRect.{ClipRect}
@@ -22,8 +22,3 @@ pub window_painted : (root : Rgb) (w : Window) (ws : List Window) (old new : Gri
 window_painted root w ws old new rect mapped wide high cut becomes shows =
     rw (wide, high) (becomes (λ x y. ground_colour root (top ws x y)) shows ∙ plane_same old.width old.height _ _ (λ x y lx ly.
     ap (λ b. if b then w.background else ground_colour root (top ws x y)) (cut x y lx ly) ∙ over root w ws x y (window_has w x y) mapped refl))
-
--- a window that isn't mapped
-pub window_hidden : (root : Rgb) (w : Window) (ws : List Window) (g : Grid Rgb) → w.mapped ≡ false → ShowsStack root ws g → ShowsStack root (w ∷ ws) g
-window_hidden root w ws g hidden shows =
-    shows ∙ plane_same g.width g.height _ _ (λ x y lx ly. sym (ap (λ b. ground_colour root (if b && window_has w x y then Some w else top ws x y)) hidden))

@@ -7,10 +7,8 @@ ghost use Rattle.dri_base.specs.declared.colour.Pixel.{Pixel};
 ghost use Rattle.dri_base.specs.declared.colour.Rgb.{Rgb};
 ghost use Rattle.dri_base.specs.declared.shape.Triangle.{Triangle};
 ghost use Rattle.dri_base.specs.Ranges.{InRange, IsPlace, TriangleInRange};
-ghost use Rattle.dri_base.specs.States.{default_state};
 ghost use Rattle.dri_model.specs.CommandWords.{IsTriangle, triangle_words, Buffer as IsBuffer};
 ghost use Rattle.dri_model.specs.Heaps.{uploaded};
-ghost use Rattle.dri_model.specs.Words.{registers_for};
 ghost use Rattle.dri_plane.specs.Grids.{pixel_count};
 ghost use Rattle.dri_base.specs.Rectangles.{AreApart};
 ghost use Rattle.dri_plane.specs.Moves.{pixel_counts};
@@ -23,10 +21,10 @@ ghost use Rattle.dri_card.specs.declared.faults.OutsideCard.TheVariants.{Base, C
 use crate::faults::{DispatchFault, LoadFault, OutsideCard};
 use crate::lifts::Lifts;
 use crate::memory::{expect_room, expect_within, write, zeros};
-use crate::opening::opening_front;
+use crate::opening::{opening_front, opening_registers};
 use crate::screen::{expect_all_stay, expect_inside};
 use crate::target::Target;
-use dri_base::{ClipRect, OutOfMemory, Point, Registers, Rgb, Scene, State, Steps, Triangle};
+use dri_base::{ClipRect, OutOfMemory, Point, Registers, Rgb, Scene, Steps, Triangle};
 use dri_cmdbuf::{Buffer, Decoded, decode};
 use dri_context::TakeWords;
 use dri_plane::Plane;
@@ -258,8 +256,6 @@ impl Card {
 
     // Refuses the first rectangle that doesn't stay on the card.
     fn expect_all_stay(&self, rects: &[ClipRect], dx: i32, dy: i32) -> Result<(), OutsideCard>
-        requires dx { IsCarry dx }
-        requires dy { IsCarry dy }
         ensures stay { IsOk result ↔ All (StaysOnCard dx dy self.now) rects.now }
         ensures off { IfErr result (IsFirstOff dx dy self.now rects.now) }
     {
@@ -322,23 +318,6 @@ impl Card {
         ensures { result.now ≡ self.now.registers }
     {
         &self.registers
-    }
-}
-
-// The registers of the default state, with nothing bound.
-fn opening_registers() -> Registers
-    ensures { result ≡ registers_for default_state None }
-{
-    let state = State::initial();
-    Registers {
-        shade: state.shade,
-        depth_func: state.depth_func,
-        depth_write: state.depth_write,
-        blend: state.blend,
-        tex_mode: state.tex_mode,
-        wrap: state.wrap,
-        bound: None,
-        scissor: state.scissor,
     }
 }
 

@@ -13,5 +13,5 @@ mod target;
 pub use card::Card;
 pub use faults::{DispatchFault, LoadFault, OutsideCard};
 pub use lifts::Lifts;
-pub use opening::opening_front;
+pub use opening::{opening_front, opening_registers};
 pub use target::Target;

@@ -1,13 +1,16 @@
-//! What a scene shows before anything is drawn. The windows are painted from the bottom of the stack to its top.
+//! What a scene shows before anything is drawn, and the registers that a card begins with. The windows are painted from the bottom
+//! of the stack to its top.
 
-ghost use Rattle.std.specs.Prelude.{◌≡◌, ◌∷◌, ℕ, List, IfOk};
+ghost use Rattle.std.specs.Prelude.{◌≡◌, ◌∷◌, ℕ, List, None, IfOk};
 ghost use Rattle.dri_base.specs.declared.colour.Rgb.{Rgb};
 ghost use Rattle.dri_base.specs.declared.scene.Window.{Window};
 ghost use Rattle.dri_base.specs.Ranges.{InRange, IsSide, WindowInRange};
+ghost use Rattle.dri_base.specs.States.{default_state};
+ghost use Rattle.dri_model.specs.Words.{registers_for};
 ghost use Rattle.dri_plane.specs.Grids.{IsInside};
 ghost use Rattle.dri_card.specs.Openings.{IsCut, ShowsStack};
 
-use dri_base::{ClipRect, OutOfMemory, Rgb, Scene, Steps, Window};
+use dri_base::{ClipRect, OutOfMemory, Registers, Rgb, Scene, State, Steps, Window};
 use dri_plane::Plane;
 use dri_walk::nearest;
 use std::alloc::Global;
@@ -30,6 +33,23 @@ pub fn opening_front<L: Ledger>(
         paint_window(&mut front, &windows[i], steps);
     }
     Ok(front)
+}
+
+/// The registers of the default state, with nothing bound.
+pub fn opening_registers() -> Registers
+    ensures { result ≡ registers_for default_state None }
+{
+    let state = State::initial();
+    Registers {
+        shade: state.shade,
+        depth_func: state.depth_func,
+        depth_write: state.depth_write,
+        blend: state.blend,
+        tex_mode: state.tex_mode,
+        wrap: state.wrap,
+        bound: None,
+        scissor: state.scissor,
+    }
 }
 
 /// Paints a window over what lies below it in the stack, where it is mapped.

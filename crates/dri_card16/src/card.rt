@@ -7,10 +7,8 @@ ghost use Rattle.dri_base.specs.declared.colour.Pixel.{Pixel};
 ghost use Rattle.dri_base.specs.declared.colour.Rgb.{Rgb};
 ghost use Rattle.dri_base.specs.declared.shape.Triangle.{Triangle};
 ghost use Rattle.dri_base.specs.Ranges.{InRange, IsPlace, TriangleInRange};
-ghost use Rattle.dri_base.specs.States.{default_state};
 ghost use Rattle.dri_model.specs.CommandWords.{IsTriangle, triangle_words, Buffer as IsBuffer};
 ghost use Rattle.dri_model.specs.Heaps.{uploaded};
-ghost use Rattle.dri_model.specs.Words.{registers_for};
 ghost use Rattle.dri_plane.specs.Grids.{pixel_count};
 ghost use Rattle.dri_base.specs.Rectangles.{AreApart};
 ghost use Rattle.dri_plane.specs.Moves.{pixel_counts};
@@ -26,10 +24,10 @@ use crate::drawing::draw16;
 use crate::format::FiveSixFive;
 use crate::opening::opening_words;
 use crate::packing::pack;
-use dri_base::{ClipRect, OutOfMemory, Point, Registers, Rgb, Scene, State, Steps, Triangle};
+use dri_base::{ClipRect, OutOfMemory, Point, Registers, Rgb, Scene, Steps, Triangle};
 use dri_card::memory::{expect_room, expect_within, write, zeros};
 use dri_card::screen::{expect_all_stay, expect_inside};
-use dri_card::{DispatchFault, Lifts, LoadFault, OutsideCard, Target};
+use dri_card::{DispatchFault, Lifts, LoadFault, OutsideCard, Target, opening_registers};
 use dri_cmdbuf::{Buffer, Decoded, decode};
 use dri_context::TakeWords;
 use dri_plane::Plane;
@@ -261,8 +259,6 @@ impl Card16 {
 
     // Refuses the first rectangle that doesn't stay on the card.
     fn expect_all_stay(&self, rects: &[ClipRect], dx: i32, dy: i32) -> Result<(), OutsideCard>
-        requires dx { IsCarry dx }
-        requires dy { IsCarry dy }
         ensures stay { IsOk result ↔ All (StaysOnCard dx dy self.now) rects.now }
         ensures off { IfErr result (IsFirstOff dx dy self.now rects.now) }
     {
@@ -304,23 +300,6 @@ impl Card16 {
         ensures { seen result.now ≡ self.now.front }
     {
         &self.front
-    }
-}
-
-// The registers of the default state, with nothing bound.
-fn opening_registers() -> Registers
-    ensures { result ≡ registers_for default_state None }
-{
-    let state = State::initial();
-    Registers {
-        shade: state.shade,
-        depth_func: state.depth_func,
-        depth_write: state.depth_write,
-        blend: state.blend,
-        tex_mode: state.tex_mode,
-        wrap: state.wrap,
-        bound: None,
-        scissor: state.scissor,
     }
 }
 

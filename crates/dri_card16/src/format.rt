@@ -1,8 +1,9 @@
 //! How a place of the card's planes keeps a colour: as its word of sixteen bits.
 
-use crate::packing::{pack, widened};
+use crate::packing::pack;
 use dri_base::Rgb;
 use dri_plane::ColourFormat;
+use dri_texel::sixteen_bits;
 
 /// Red in bits 15 to 11, green in bits 10 to 5, blue in bits 4 to 0. A place shows its word, widened as a texel of sixteen bits is.
 pub struct FiveSixFive;
@@ -24,7 +25,7 @@ impl ColourFormat for FiveSixFive {
 
     #[inline(always)]
     fn shown(place: u16) -> Rgb {
-        widened(place)
+        sixteen_bits(place)
     }
 
     #[inline(always)]

@@ -18,7 +18,7 @@ pub use card::Card16;
 pub use format::FiveSixFive;
 pub use line::{is_line, worked_lines};
 pub use line_drawing::{dot_is_the_line, draw_line};
-pub use packing::{pack, widened, words};
+pub use packing::{pack, words};
 pub use runs::{alone, as_ever, beside, confined, own};
 pub use sixteen::{alone16, confined16, for_good16};
 pub use worked::{colours, each_time, four_pixels, root};

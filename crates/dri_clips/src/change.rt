@@ -1,6 +1,6 @@
 //! Which changes the board refuses, and the stack after one that it doesn't.
 
-ghost use Rattle.std.specs.Prelude.{◌≡◌, ◌&&◌, None, true, false, IfOk, OnOk, IfErr};
+ghost use Rattle.std.specs.Prelude.{◌≡◌, ◌≢◌, ◌&&◌, None, true, false, IfOk, OnOk, OnErr, IfErr};
 ghost use Rattle.dri_base.specs.Scenes.{named_by};
 ghost use Rattle.dri_model.specs.Stacks.{changed, moves, refusal, refused_at, stack_after, unmapped, without_owner};
 ghost use Rattle.dri_clips.specs.declared.change.ChangeFault.TheVariants.{OutOfMemory};
@@ -36,6 +36,19 @@ impl From<OutOfMemory> for ChangeFault {
 
     fn from(_error: OutOfMemory) -> ChangeFault {
         ChangeFault::OutOfMemory
+    }
+}
+
+impl ChangeFault {
+    /// Whether the change is refused: the board's refusals touch nothing, and only want of memory is an error.
+    pub fn refused(self) -> Result<(), OutOfMemory>
+        ensures refused { OnOk result (self ≢ OutOfMemory) }
+        ensures wanting { OnErr result (self ≡ OutOfMemory) }
+    {
+        match self {
+            ChangeFault::OutOfMemory => Err(OutOfMemory),
+            _ => Ok(()),
+        }
     }
 }
 

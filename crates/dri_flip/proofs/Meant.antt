@@ -7,7 +7,7 @@ use Rattle.dri_base.proofs.PlaneLists.{plane_same}
 use Rattle.dri_base.specs.Rectangles.{in_rects}
 use Rattle.dri_plane.specs.Grids.{ClipRect, Grid, pixel_count}
 use Rattle.dri_plane.specs.Runs.{HoldPairs}
-use Rattle.dri_flip.specs.Calls.{OnlyDrawn, OnlyShown, cleared_in, copy_steps, swapped_in}
+use Rattle.dri_flip.specs.Calls.{OnlyShown, cleared_in, copy_steps, swapped_in}
 use Rattle.dri_flip.specs.Invariants.{IsFlipCard, meaning}
 use Rattle.dri_flip.specs.Meanings.{HaveSides, Holds, IsFresh, KeepSides, Meaning, Shows}
 use Rattle.dri_flip.specs.Places.{has_all}
@@ -135,16 +135,6 @@ keep_shown old new only wide high width height sides = record {
   back_height = ap (λ (m : Meaning). m.back.height) only ∙ sides.back_height;
   depth_width = ap (λ (m : Meaning). m.depth.width) only ∙ sides.depth_width;
   depth_height = ap (λ (m : Meaning). m.depth.height) only ∙ sides.depth_height;
-}
-
-pub keep_drawn : (old new : Meaning) → OnlyDrawn old new → new.back.width ≡ old.back.width → new.back.height ≡ old.back.height → new.depth.width ≡ old.depth.width → new.depth.height ≡ old.depth.height → KeepSides old new
-keep_drawn old new only wide high deep_wide deep_high width height sides = record {
-  front_width = ap (λ (m : Meaning). m.front.width) only ∙ sides.front_width;
-  front_height = ap (λ (m : Meaning). m.front.height) only ∙ sides.front_height;
-  back_width = wide ∙ sides.back_width;
-  back_height = high ∙ sides.back_height;
-  depth_width = deep_wide ∙ sides.depth_width;
-  depth_height = deep_high ∙ sides.depth_height;
 }
 
 -- a clear of the whole card, whatever was owed

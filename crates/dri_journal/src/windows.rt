@@ -1,26 +1,15 @@
 //! What an entry does to the windows.
 
-ghost use Rattle.std.specs.Prelude.{◌≡◌, ◌≢◌, ◌≤◌, None, IfOk, IfSome, OnOk, OnErr, is_none, is_some};
+ghost use Rattle.std.specs.Prelude.{◌≡◌, ◌≤◌, None, IfOk, IfSome, OnOk, OnErr, is_none, is_some};
 ghost use Rattle.dri_base.specs.Limits.{last_stamp};
 ghost use Rattle.dri_clips.specs.Boards.{IsRestacked};
 ghost use Rattle.dri_clips.specs.Paints.{IsTouched};
-ghost use Rattle.dri_clips.specs.declared.change.ChangeFault.{ChangeFault};
 ghost use Rattle.dri_model.specs.Stacks.{moved_by, refusal, stack_after, without_owner};
 
 use dri_base::{Change, OutOfMemory, Steps};
-use dri_clips::{Board, ChangeFault, Touched};
+use dri_clips::{Board, Touched};
 use std::alloc::Global;
 use std::sync::ledger::{Blank, Ledger};
-
-/// Why a change wasn't made: a refusal by the board touches nothing, want of memory isn't one.
-fn refused(fault: ChangeFault) -> Result<(), OutOfMemory>
-    ensures { OnOk result (fault ≢ ChangeFault.OutOfMemory) }
-{
-    match fault {
-        ChangeFault::OutOfMemory => Err(OutOfMemory),
-        _ => Ok(()),
-    }
-}
 
 /// Makes a change of the windows, and tells what it touched; none where the board refuses it, which changes nothing. The
 /// steps are counted from the blank on.
@@ -43,7 +32,7 @@ pub fn change_windows<L: Ledger>(
     match board.apply(alloc, change, &mut steps) {
         Ok(touched) => Ok(Some(touched)),
         Err(fault) => {
-            refused(fault)?;
+            fault.refused()?;
             Ok(None)
         }
     }

@@ -1,14 +1,13 @@
 //! What a new stack leaves on the card: a moved window takes along what it shows, and then front is painted where the
 //! topmost window has changed. And the board's changes with that.
 
-ghost use Rattle.std.specs.Prelude.{◌≡◌, ◌≢◌, ◌≤◌, ◌+◌, ◌*◌, ℕ, None, All, IfSome, OnOk, OnErr};
+ghost use Rattle.std.specs.Prelude.{◌≡◌, ◌≤◌, ◌+◌, ◌*◌, ℕ, None, All, IfSome, OnOk, OnErr};
 ghost use Rattle.dri_base.specs.declared.colour.Pixel.{Pixel};
 ghost use Rattle.dri_base.specs.declared.colour.Rgb.{Rgb};
 ghost use Rattle.dri_base.specs.Limits.{last_stamp};
 ghost use Rattle.dri_card.specs.Contents.{Holds, KeepSides, Shows};
 ghost use Rattle.dri_card.specs.Drawing.{OnlyCarried, OnlyShown};
 ghost use Rattle.dri_clips.specs.Paints.{IsOnScreen, filled};
-ghost use Rattle.dri_clips.specs.declared.change.ChangeFault.{ChangeFault};
 ghost use Rattle.dri_model.specs.Stacks.{moved_by, stack_after, without_owner};
 ghost use Rattle.dri_draw.specs.Drawing.{IsScreen};
 ghost use Rattle.dri_shared.specs.Drawing.{CanCarry, accesses, carried_along, carry_accesses, painted_pixels};
@@ -16,7 +15,7 @@ ghost use Rattle.dri_shared.specs.Holdings.{IsRestackedOn};
 
 use dri_base::{Change, OutOfMemory, Steps};
 use dri_card::Card;
-use dri_clips::{Board, ChangeFault, Paint, Touched};
+use dri_clips::{Board, Paint, Touched};
 use std::alloc::Global;
 use std::sync::ledger::{Blank, Ledger};
 
@@ -68,16 +67,6 @@ fn show<L: Ledger>(card: &mut Card, touched: &Touched, steps: &mut Steps<L>)
     paint(card, touched.paints.as_slice(), steps);
 }
 
-/// Why a change wasn't made: a refusal by the board is as good as done, want of memory isn't.
-fn refused(fault: ChangeFault) -> Result<(), OutOfMemory>
-    ensures { OnOk result (fault ≢ ChangeFault.OutOfMemory) }
-{
-    match fault {
-        ChangeFault::OutOfMemory => Err(OutOfMemory),
-        _ => Ok(()),
-    }
-}
-
 /// Makes a change of the windows, on the board and on the card. One that the board refuses changes nothing. The steps are
 /// counted from the blank on.
 pub(crate) fn change_windows<L: Ledger>(
@@ -103,7 +92,7 @@ pub(crate) fn change_windows<L: Ledger>(
             show(card, &touched, &mut steps);
             Ok(())
         }
-        Err(fault) => refused(fault),
+        Err(fault) => fault.refused(),
     }
 }
 

@@ -1,13 +1,12 @@
 -- What a drawing leaves is the pixel rule, in the clip and in the scissor.
 use Rattle.std.proofs.Common.{◌≡◌, ℕ, Bool, true, false, not, ◌&&◌, if◌then◌else◌, Option, Some, None, ℤ, pos, ◌-ℤ◌, refl, sym, ap, ◌∙◌}
-use Rattle.std.specs.Ordering.{int_eq}
 use Rattle.dri_base.specs.declared.colour.Rgba.{Rgba}
 use Rattle.dri_base.specs.declared.colour.Pixel.{Pixel}
 use Rattle.dri_base.specs.declared.shape.ClipRect.{ClipRect}
 use Rattle.dri_base.specs.declared.shape.Point.{Point}
 use Rattle.dri_base.specs.declared.shape.Triangle.{Triangle}
 use Rattle.dri_base.specs.declared.state.Registers.{Registers}
-use Rattle.dri_base.specs.Coverage.{area, centre, covers, is_inside, quantity, turned as turned_triangle}
+use Rattle.dri_base.specs.Coverage.{covers, quantity}
 use Rattle.dri_base.specs.Fragments.{in_scissor, over, passes, shaded, with_texel, written}
 use Rattle.dri_base.specs.Texels.{Image}
 use Rattle.dri_model.specs.Words.{rules_in}
@@ -90,15 +89,3 @@ triangle_drawn kept r image t clip rect origin drawing is narrowed f x y =
     ap (λ b. if b then drawing (pos x -ℤ origin.x) (pos y -ℤ origin.y) (f x y) else f x y) (narrowed x y)
     ∙ ap (λ (d : ℤ → ℤ → Pixel → Pixel). if in_rect clip x y && in_scissor r.scissor (pos x -ℤ origin.x) (pos y -ℤ origin.y) then d (pos x -ℤ origin.x) (pos y -ℤ origin.y) (f x y) else f x y) is
     ∙ scissored kept r image t (pos x -ℤ origin.x) (pos y -ℤ origin.y) (f x y) (in_rect clip x y)
-
--- a triangle without an area covers nothing
-uncovered : (t : Triangle) → area t ≡ pos 0 → (x y : ℤ) → covers t x y ≡ false
-uncovered t none x y = ap (λ n. not (int_eq n (pos 0)) && is_inside (turned_triangle t) (centre x y)) none
-
--- and leaves what is there
-pub triangle_missed : (kept : Pixel → Pixel) (r : Registers) (image : Option Image) (t : Triangle) (clip : ClipRect) (origin : Point) → area t ≡ pos 0
-    → (f : ℕ → ℕ → Pixel) (x y : ℕ) → f x y ≡ after_drawing kept (rules_in r) image t clip origin f x y
-triangle_missed kept r image t clip origin none f x y = by (in_rect clip x y) where
-  by : (b : Bool) → f x y ≡ (if b then fragment_kept kept (rules_in r) image t (pos x -ℤ origin.x) (pos y -ℤ origin.y) (f x y) else f x y)
-  by false = refl
-  by true = rw (uncovered t none (pos x -ℤ origin.x) (pos y -ℤ origin.y)) refl

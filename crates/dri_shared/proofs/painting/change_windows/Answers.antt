@@ -19,7 +19,7 @@ returns-in-Ok-clause-ok g c = let ws = c.args.board.now.stack in
 pub returns-clause-ok : goal.returns-clause-ok
 returns-clause-ok g c = let ws = c.args.board.now.stack in let r = refusal c.args.change.now ws in
     when_ok c.refused.result _ _ (λ ne. stays r (changed c.args.change.now ws) (moves c.args.change.now) c.args.board.now c.apply.new.self c.args.card.now
-    (refused_by r c.in-Err.fault ne c.in-Err.ensures.no_window c.in-Err.ensures.out_of_range c.in-Err.ensures.already_mapped c.in-Err.ensures.not_mapped) c.in-Err.ensures.err) c.refused.ensures
+    (refused_by r c.in-Err.fault ne c.in-Err.ensures.no_window c.in-Err.ensures.out_of_range c.in-Err.ensures.already_mapped c.in-Err.ensures.not_mapped) c.in-Err.ensures.err) c.refused.ensures.refused
 
 pub returns-clause-err : goal.returns-clause-err
 returns-clause-err g c = when_err c.refused.result _ (c.in-Err.ensures.err, refl)
