@@ -259,6 +259,8 @@ impl Card16 {
 
     // Refuses the first rectangle that doesn't stay on the card.
     fn expect_all_stay(&self, rects: &[ClipRect], dx: i32, dy: i32) -> Result<(), OutsideCard>
+        requires dx { IsCarry dx }
+        requires dy { IsCarry dy }
         ensures stay { IsOk result ↔ All (StaysOnCard dx dy self.now) rects.now }
         ensures off { IfErr result (IsFirstOff dx dy self.now rects.now) }
     {

@@ -3,6 +3,7 @@
 ghost use Rattle.std.specs.Prelude.{◌≡◌, ◌≢◌, ◌&&◌, None, true, false, IfOk, OnOk, OnErr, IfErr};
 ghost use Rattle.dri_base.specs.Scenes.{named_by};
 ghost use Rattle.dri_model.specs.Stacks.{changed, moves, refusal, refused_at, stack_after, unmapped, without_owner};
+ghost use Rattle.dri_clips.specs.declared.change.ChangeFault.{ChangeFault};
 ghost use Rattle.dri_clips.specs.declared.change.ChangeFault.TheVariants.{OutOfMemory};
 ghost use Rattle.dri_clips.specs.Layouts.{IsPlaced};
 ghost use Rattle.dri_clips.specs.Refusals.{IsRefused, altered_by, destination};
@@ -42,8 +43,8 @@ impl From<OutOfMemory> for ChangeFault {
 impl ChangeFault {
     /// Whether the change is refused: the board's refusals touch nothing, and only want of memory is an error.
     pub fn refused(self) -> Result<(), OutOfMemory>
-        ensures refused { OnOk result (self ≢ OutOfMemory) }
-        ensures wanting { OnErr result (self ≡ OutOfMemory) }
+        ensures refused { OnOk result (self ≢ ChangeFault.OutOfMemory) }
+        ensures wanting { OnErr result (self ≡ ChangeFault.OutOfMemory) }
     {
         match self {
             ChangeFault::OutOfMemory => Err(OutOfMemory),

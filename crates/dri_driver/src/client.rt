@@ -107,6 +107,13 @@ impl Client {
         self.number
     }
 
+    /// Whether it was stopped, and its death is yet to come.
+    pub fn is_dying(&self) -> bool
+        ensures { result ≡ self.now.dying }
+    {
+        self.is_dying
+    }
+
     /// What it is doing: dying, where it was stopped, and else the phase of its part.
     pub fn phase(&self) -> Phase
         ensures { result ≡ shown_phase self.now.dying self.now.phase }

@@ -69,6 +69,13 @@ impl Queue {
         self.actors.contains(&actor)
     }
 
+    /// The actors that wait, the first first.
+    pub fn actors(&self) -> &[u32]
+        ensures { result.now ≡ self.now }
+    {
+        self.actors.as_slice()
+    }
+
     /// Whether nobody waits.
     pub fn is_empty(&self) -> bool
         ensures { IsTrue result ↔ (self.now ≡ []) }

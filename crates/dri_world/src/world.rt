@@ -2,10 +2,10 @@
 //! keeps that the events are a run of the scene, and that each part is that of the core which they leave. Room for an
 //! event is made before the event, so want of memory leaves all as it was.
 
-ghost use Rattle.std.specs.Prelude.{◌≡◌, [], IfOk};
+ghost use Rattle.std.specs.Prelude.{◌≡◌, [], Contains, IfOk};
 ghost use Rattle.std.specs.Arc.{arc_value};
 ghost use Rattle.dri_base.specs.Planes.{plane};
-ghost use Rattle.dri_base.specs.Ranges.{InRange};
+ghost use Rattle.dri_base.specs.Ranges.{InRange, client_numbers};
 ghost use Rattle.dri_core.specs.CoreRuns.{ConfinedRun, IsRun, OwnRun, SoloLeftRun, world_of};
 ghost use Rattle.dri_core.specs.Cores.{journal_of, word_number};
 ghost use Rattle.dri_core.specs.Runs.{HoldRun, after};
@@ -15,6 +15,7 @@ ghost use Rattle.dri_world.specs.Courses.{core_of};
 use crate::lock::{Lock, LockWord};
 use crate::site::Site;
 use dri_base::{Entry, Event, OutOfMemory, Rgb, Scene};
+use dri_client::place_of;
 use dri_driver::{Client, clients_of};
 use dri_kernel::Queue;
 use dri_plane::Plane;
@@ -71,6 +72,24 @@ impl World {
         ensures { result ≡ word_number (core_of self.now).word }
     {
         self.site.lock.word.number()
+    }
+
+    /// The actors that wait for the lock, the first first; the server is 0.
+    pub fn queue(&self) -> &[u32]
+        ensures { result.now ≡ (core_of self.now).queue }
+    {
+        self.site.lock.queue.actors()
+    }
+
+    /// Whether a client of the scene was stopped, and its death is yet to come.
+    pub fn is_dying(&self, client: u32) -> bool
+        requires { Contains (client_numbers self.now.scene.clients) client }
+        ensures { result ≡ (core_of self.now).dying client }
+    {
+        let Some(place) = place_of(self.scene.clients.as_slice(), client) else {
+            unreachable!();
+        };
+        self.clients[place].is_dying()
     }
 
     /// All events made, in order. They are a run of the scene, which is in range: no command of it changes a pixel

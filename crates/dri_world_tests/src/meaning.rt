@@ -74,6 +74,10 @@ fn worked_scenes() {
     each_setting();
     turned_off();
     each_depth();
+}
+
+#[test]
+fn worked_regions() {
     a_shared_region();
     a_region_unshared();
     a_full_region();
