@@ -2,7 +2,7 @@
 
 ghost use Rattle.std.specs.Prelude.{◌≡◌, IfOk, OnOk, OnErr};
 ghost use Rattle.dri_core.specs.Turns.{item_event, one_event, played};
-ghost use Rattle.dri_world.specs.Courses.{GoesOn, IsScheduledIn, MayTake, core_of};
+ghost use Rattle.dri_world.specs.Courses.{GoesOn, IsScheduledIn, MayTake, core_of, turned};
 
 use crate::turned::Turned;
 use crate::world::World;
@@ -23,9 +23,10 @@ impl World {
         Ok(())
     }
 
-    // Takes an item of the schedule.
-    fn take(&mut self, alloc: Global, item: Item) -> Result<Turned, OutOfMemory>
+    /// Takes an item: the turn of an actor of the scene, or a kill that the schedule has.
+    pub fn take(&mut self, alloc: Global, item: Item) -> Result<Turned, OutOfMemory>
         requires { MayTake self.old.scene item }
+        ensures told { IfOk result (λ t. t ≡ turned (item_event self.old.scene (core_of self.old) item)) }
         ensures made { OnOk result (GoesOn self.old self.new (one_event (item_event self.old.scene (core_of self.old) item))) }
         ensures err { OnErr result (self.new ≡ self.old) }
     {
