@@ -76,13 +76,7 @@ pub fn run_actors<R: Threads + Wait + Sync, T: Gate + Sync>(
     requires clients { AreOpening (arc_value scene.now) (client_numbers (arc_value scene.now).clients) clients }
     ensures served { AreServed (arc_value scene.now) (id_of hw.now) (length (passes_in passes)) result.short (passes_in result.passes) }
 {
-    let stage = Stage {
-        alloc,
-        gate,
-        scene,
-        hw,
-        kernel,
-    };
+    let stage = Stage::new(alloc, gate, scene, hw, kernel);
     run_beside(rt, &stage, passes, clients)
 }
 
@@ -90,8 +84,8 @@ pub fn run_actors<R: Threads + Wait + Sync, T: Gate + Sync>(
 fn run_beside<R: Threads + Wait + Sync, T: Gate + Sync>(
     rt: &R,
     stage: &Stage<'_, T>,
-    passes: Passes<Shared>,
-    clients: Drivers,
+    mut passes: Passes<Shared>,
+    mut clients: Drivers,
 ) -> Finished
     requires in_range { InRange stage.now.scene.now }
     requires new { AreNew (id_of stage.now.hw.now) stage.now.scene.now 1 (passes_in passes) }
@@ -99,64 +93,45 @@ fn run_beside<R: Threads + Wait + Sync, T: Gate + Sync>(
     requires clients { AreBelow stage.now.scene.now (length (passes_in passes)) clients }
     ensures served { AreServed stage.now.scene.now (id_of stage.now.hw.now) (length (passes_in passes)) result.short (passes_in result.passes) }
 {
-    let mut passes = passes;
-    let mut clients = clients;
     let Some(pass) = passes.pop() else {
         unreachable!()
     };
     let number = passes.len();
     if number == 0 {
-        let finished = Finished {
-            passes,
-            short: false,
-        };
-        return finished.with(run_server(rt, stage, pass));
+        let short = false;
+        return Finished { passes, short }.with(run_server(rt, stage, pass));
     }
-    match last_client(stage.scene, &mut clients, number) {
-        None => run_beside(rt, stage, passes, clients).with(Ok(pass)),
-        Some(client) => {
-            let &Stage {
-                alloc,
-                gate,
-                scene,
-                hw,
-                kernel,
-            } = stage;
-            let (returned, finished) = join(
-                rt,
-                move || -> Result<Pass<Shared>, Short>
-                    requires { IsSync R.row × ((pass_token pass).lock ≡ id_of hw.now) × IsNumber number × Stands (pass_token pass) client number }
-                    ensures { IfOk result (λ p. IsSuccessor (pass_token pass) (pass_token p))
-                        × IfOk result (λ p. is_done ((after client.scene (pass_token p).seen).client number).phase ≡ true)
-                        × IfErr result (λ short. IsSuccessor (pass_token pass) (pass_token short.pass)) }
-                {
-                    let stage = Stage {
-                        alloc,
-                        gate,
-                        scene,
-                        hw,
-                        kernel,
-                    };
-                    let mut client = client;
-                    run_client(rt, &stage, pass, &mut client, number)
-                },
-                move || -> Finished
-                    requires { IsSync R.row × InRange scene.now × AreNew (id_of hw.now) scene.now 1 (passes_in passes) × (0 < length (passes_in passes)) × AreBelow scene.now (length (passes_in passes)) clients }
-                    ensures { AreServed scene.entry.now (id_of hw.entry.now) (length (passes_in passes)) result.short (passes_in result.passes) }
-                {
-                    let stage = Stage {
-                        alloc,
-                        gate,
-                        scene,
-                        hw,
-                        kernel,
-                    };
-                    run_beside(rt, &stage, passes, clients)
-                },
-            );
-            finished.with(returned)
-        }
-    }
+    let Some(client) = last_client(stage.scene, &mut clients, number) else {
+        return run_beside(rt, stage, passes, clients).with(Ok(pass));
+    };
+    let &Stage {
+        alloc,
+        gate,
+        scene,
+        hw,
+        kernel,
+    } = stage;
+    let (returned, finished) = join(
+        rt,
+        move || -> Result<Pass<Shared>, Short>
+            requires { IsSync R.row × ((pass_token pass).lock ≡ id_of hw.now) × IsNumber number × Stands (pass_token pass) client number }
+            ensures { IfOk result (λ p. IsSuccessor (pass_token pass) (pass_token p))
+                × IfOk result (λ p. is_done ((after client.scene (pass_token p).seen).client number).phase ≡ true)
+                × IfErr result (λ short. IsSuccessor (pass_token pass) (pass_token short.pass)) }
+        {
+            let stage = Stage::new(alloc, gate, scene, hw, kernel);
+            let mut client = client;
+            run_client(rt, &stage, pass, &mut client, number)
+        },
+        move || -> Finished
+            requires { IsSync R.row × InRange scene.now × AreNew (id_of hw.now) scene.now 1 (passes_in passes) × (0 < length (passes_in passes)) × AreBelow scene.now (length (passes_in passes)) clients }
+            ensures { AreServed scene.entry.now (id_of hw.entry.now) (length (passes_in passes)) result.short (passes_in result.passes) }
+        {
+            let stage = Stage::new(alloc, gate, scene, hw, kernel);
+            run_beside(rt, &stage, passes, clients)
+        },
+    );
+    finished.with(returned)
 }
 
 /// Takes the last client away where it is the one of this number.

@@ -1,5 +1,7 @@
 //! What all actors share.
 
+ghost use Rattle.std.specs.Prelude.{◌≡◌};
+
 use crate::gate::Gate;
 use dri_base::Scene;
 use dri_hwlock::HwLock;
@@ -16,4 +18,26 @@ pub(crate) struct Stage<'a, T: Gate> {
     pub(crate) scene: &'a Scene,
     pub(crate) hw: &'a HwLock<Shared>,
     pub(crate) kernel: &'a Kernel,
+}
+
+impl<'a, T: Gate> Stage<'a, T> {
+    /// The stage of these parts.
+    pub(crate) fn new(
+        alloc: Global,
+        gate: &'a T,
+        scene: &'a Scene,
+        hw: &'a HwLock<Shared>,
+        kernel: &'a Kernel,
+    ) -> Stage<'a, T>
+        ensures scene { result.scene.now ≡ scene.now }
+        ensures hw { result.hw.now ≡ hw.now }
+    {
+        Stage {
+            alloc,
+            gate,
+            scene,
+            hw,
+            kernel,
+        }
+    }
 }

@@ -53,21 +53,21 @@ returns-then-number-eq0 g n c =
     weaker r server.made (λ q is more. absurd (omega (arith, more, z))) in
     record { served = served_back (λ (e : Short). e.pass) _ _ _ _ _ c.in-Some.ensures.last c.requires.new r false _ _ _ server.next made done server.short (served_none _ _ _ z) c.with.ensures.ok c.with.ensures.err }
 
-pub returns-in-None : goal.returns-in-None
-returns-in-None g n c =
+pub returns-in_default-last_client : goal.returns-in_default-last_client
+returns-in_default-last_client g n c =
     let number : c.len-number.result ≡ length (passes_in c.pop.new.self) = c.len-number.ensures.count in
     let more : 0 < length (passes_in c.pop.new.self) = search rules in
-    let nobody = λ (has : Contains (client_numbers c.args.stage.now.scene.now.clients) (length (passes_in c.pop.new.self))). c.in-None.ensures.none.1 (subst (Contains (client_numbers c.args.stage.now.scene.now.clients)) (sym number) has) in
-    record { served = served_back (λ (e : Short). e.pass) _ _ _ _ _ c.in-Some.ensures.last c.requires.new (Ok c.in-Some.pass) _ _ _ _ (record { lock = refl; context = refl; base = refl }) (λ z. absurd (omega (arith, more, z))) (λ _ has. absurd (nobody has)) tt c.run_beside.ensures.served c.with-in-None.ensures.ok tt }
+    let nobody = λ (has : Contains (client_numbers c.args.stage.now.scene.now.clients) (length (passes_in c.pop.new.self))). c.in_default-last_client.ensures.none.1 (subst (Contains (client_numbers c.args.stage.now.scene.now.clients)) (sym number) has) in
+    record { served = served_back (λ (e : Short). e.pass) _ _ _ _ _ c.in-Some.ensures.last c.requires.new (Ok c.in-Some.pass) _ _ _ _ (record { lock = refl; context = refl; base = refl }) (λ z. absurd (omega (arith, more, z))) (λ _ has. absurd (nobody has)) tt c.run_beside.ensures.served c.with-in_default-last_client.ensures.ok tt }
 
-pub with-requires-in-Some-last_client : goal.with-requires-in-Some-last_client
-with-requires-in-Some-last_client g n c =
+pub with-requires-2 : goal.with-requires-2
+with-requires-2 g n c =
     let s = c.args.stage.now.scene.now in let f = c.join-returned.result.1 in
     let served : AreServed s (id_of c.args.stage.now.hw.now) (length (passes_in c.pop.new.self)) f.short (passes_in f.passes) = c.join-returned.ensures.second in
     record { room = omega (arith, served.count, (new_last _ _ _ _ _ c.in-Some.ensures.last c.requires.new).2, c.args.passes.few) }
 
-pub returns-in-Some-last_client : goal.returns-in-Some-last_client
-returns-in-Some-last_client g n c =
+pub returns : goal.returns
+returns g n c =
     let r = c.join-returned.result.0 in let f = c.join-returned.result.1 in let s = c.args.stage.now.scene.now in
     let number : c.len-number.result ≡ length (passes_in c.pop.new.self) = c.len-number.ensures.count in
     let more : 0 < length (passes_in c.pop.new.self) = search rules in
@@ -79,4 +79,7 @@ returns-in-Some-last_client g n c =
     let made : IfOk r (λ q. length (passes_in c.pop.new.self) ≡ 0 → (after s (pass_token q).seen).made ≡ length s.changes) = weaker r next (λ q _ z. absurd (omega (arith, more, z))) in
     let done : IfOk r (λ q. 0 < length (passes_in c.pop.new.self) → Contains (client_numbers s.clients) (length (passes_in c.pop.new.self)) → is_done ((after s (pass_token q).seen).client (length (passes_in c.pop.new.self))).phase ≡ true) =
     weaker r ended (λ q d _ _. (λ i. is_done ((after (sym same i) (pass_token q).seen).client (sym number i)).phase) ∙ d) in
-    record { served = served_back (λ (e : Short). e.pass) _ _ _ _ _ c.in-Some.ensures.last c.requires.new r _ _ _ _ next made done gave served c.with-in-Some-last_client.ensures.ok c.with-in-Some-last_client.ensures.err }
+    record { served = served_back (λ (e : Short). e.pass) _ _ _ _ _ c.in-Some.ensures.last c.requires.new r _ _ _ _ next made done gave served c.with-2.ensures.ok c.with-2.ensures.err }
+
+pub join+arg3-run_beside-requires-clause-new : goal.join+arg3-run_beside-requires-clause-new
+join+arg3-run_beside-requires-clause-new g n c κs b = rw (c.new-stage.ensures.hw, c.new-stage.ensures.scene) c.requires.2
