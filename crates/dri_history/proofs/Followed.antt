@@ -7,13 +7,14 @@ use Rattle.dri_base.specs.declared.scene.Scene.{Scene}
 use Rattle.dri_card.specs.Contents.{Contents, HaveSides, Holds, IsOpening, Shows}
 use Rattle.dri_core.specs.EntryTable.{LegalEntry}
 use Rattle.dri_core.specs.Runs.{HoldRun, after, client_of}
-use Rattle.dri_history.specs.Follows.{Follows, IsFollowing, IsMade, IsTelling}
+use Rattle.dri_history.specs.Follows.{IsFollowing, IsMade, IsTelling}
 use Rattle.dri_journal.specs.Deeds.{Does}
 use Rattle.dri_journal.specs.Replays.{MayTake, ReplayState, Steps, Took, world_of}
 use Rattle.dri_journal.specs.declared.deed.Deed.{Deed}
 use Rattle.dri_journal.specs.declared.refusal.StepFault.{StepFault}
 use Rattle.dri_journal.specs.declared.refusal.StepFault.TheVariants as faults
 use Rattle.dri_replay.proofs.Lifted.{back_after, front_after, taken, with_entry}
+use Rattle.dri_replay.specs.Cards.{Follows}
 use Rattle.dri_replay.specs.Makings.{front_made}
 
 -- a card that followed the entries before follows this one too

@@ -1,7 +1,5 @@
 -- Rectangles that have a place, and what a card has there
 pub mod Placing
--- A client's own state and texture, loaded into a card
-pub mod Loading
 -- What each deed makes of a card
 pub mod Made
 -- One entry more on the card

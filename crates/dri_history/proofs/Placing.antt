@@ -1,5 +1,5 @@
 -- Rectangles that have a place, and what a card has there.
-use Rattle.std.proofs.Common.{◌≡◌, ◌<◌, ◌+◌, ℕ, suc, ℤ, pos, negsuc, List, [], ◌∷◌, take, Bool, true, false, ◌||◌, if◌then◌else◌, Some, None, is_some, slice_get, All, refl, ◌∙◌, sym, ap, subst, arith}
+use Rattle.std.proofs.Common.{◌≡◌, ◌<◌, ◌+◌, ℕ, suc, ℤ, pos, negsuc, List, [], ◌∷◌, take, Bool, true, false, ◌||◌, if◌then◌else◌, Some, None, is_some, slice_get, refl, ◌∙◌, sym, ap, subst, arith}
 use Rattle.std.proofs.lemmas.Option.{same_Some}
 use Rattle.std.specs.List.{list_any}
 use Rattle.dri_base.proofs.PlaneLists.{plane_at}
@@ -8,10 +8,7 @@ use Rattle.dri_base.specs.declared.colour.Pixel.{Pixel}
 use Rattle.dri_base.specs.declared.colour.Rgb.{Rgb}
 use Rattle.dri_base.specs.declared.shape.ClipRect.{ClipRect}
 use Rattle.dri_base.specs.declared.shape.Rect.{Rect}
-use Rattle.dri_card.specs.Contents.{Contents, HaveSides, Holds, KeepSides, Shows}
-use Rattle.dri_clips.specs.Paints.{IsOnScreen}
-use Rattle.dri_clips.specs.declared.touched.Paint.{Paint}
-use Rattle.dri_draw.specs.Drawing.{IsScreen}
+use Rattle.dri_card.specs.Contents.{Contents, HaveSides, Holds, Shows}
 use Rattle.dri_base.specs.Rectangles.{in_rects}
 use Rattle.dri_draw.proofs.Rects.{inside_at, inside_more}
 use Rattle.dri_history.specs.declared.touch.Sample.{Sample}
@@ -55,13 +52,6 @@ any_has rects (negsuc x) y = sym (none rects)
     none : (rs : List ClipRect) → list_any (λ r. false) rs ≡ false
     none [] = refl
     none (r ∷ rs) = none rs
-
--- where the sides stay, paints of the screen stay on it
-pub paints_kept : (a b : Contents) (ps : List Paint) → IsScreen a → KeepSides a b → All (λ p. IsOnScreen a.front.width a.front.height p.rect) ps → All (λ p. IsOnScreen b.front.width b.front.height p.rect) ps
-paints_kept a b ps screen keep on = rw (s.front_width, s.front_height) on
-  where
-    s : HaveSides b a.front.width a.front.height
-    s = keep a.front.width a.front.height screen.sides
 
 -- a plane's pixel
 grid_at : {A : Type 0} (g : Grid A) (f : ℕ → ℕ → A) (x y : ℕ) (p : A) → g.pixels ≡ plane g.width g.height f → x < g.width → y < g.height → at g.width g.pixels x y ≡ Some p → p ≡ f x y

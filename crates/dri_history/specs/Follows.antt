@@ -1,16 +1,13 @@
 -- A card that follows a replay: what each deed makes of it, and what it does at a place.
 use Rattle.std.specs.Prelude.{◌≡◌, ◌-ℤ◌, ℕ, pos, Bool, true, false, if◌then◌else◌, length, Option, Some, None, is_some, Result, Ok, Err}
-use Rattle.dri_base.specs.Ranges.{heap_bytes}
 use Rattle.dri_base.specs.declared.colour.Pixel.{Pixel}
 use Rattle.dri_base.specs.declared.colour.Rgb.{Rgb}
 use Rattle.dri_base.specs.declared.journal.Entry.{Entry}
-use Rattle.dri_base.specs.declared.scene.Scene.{Scene}
-use Rattle.dri_card.specs.Contents.{Contents, HaveSides, Holds, KeepSides, Shows}
+use Rattle.dri_card.specs.Contents.{Contents, Holds, KeepSides, Shows}
 use Rattle.dri_base.specs.Rectangles.{in_rects}
 use Rattle.dri_clips.specs.Paints.{paint_at}
 use Rattle.dri_clips.specs.declared.touched.Carry.{Carry}
 use Rattle.dri_clips.specs.declared.touched.Touched.{Touched}
-use Rattle.dri_core.specs.Worlds.{World}
 use Rattle.dri_history.specs.Touches.{IsClipAt, IsTold}
 use Rattle.dri_history.specs.declared.touch.Clip.{Clip}
 use Rattle.dri_history.specs.declared.touch.Kind.{Kind}
@@ -24,18 +21,8 @@ use Rattle.dri_journal.specs.declared.deed.Deed.TheVariants as Deed_is
 use Rattle.dri_journal.specs.declared.refusal.StepFault.{StepFault}
 use Rattle.dri_journal.specs.declared.refusal.StepFault.TheVariants as faults
 use Rattle.dri_model.specs.Stacks.{pixel_in}
+use Rattle.dri_replay.specs.Cards.{Follows}
 use Rattle.dri_replay.specs.Makings.{back_made, clips_now, front_made}
-
--- the card has a world's front and back, the scene's sides, and all of the texture memory
-pub record Follows (s : Scene) (w : World) (card : Contents) : Type 0 where
-  pub sides : HaveSides card s.width s.height
-  pub bytes : length card.memory ≡ heap_bytes s
-  pub shown : Shows card w.front
-  pub held : Holds card w.back
-
--- nothing but the registers and the texture memory differs
-abbrev pub OnlyLoaded : Contents → Contents → Type 0
-OnlyLoaded old new = new ≡ record old { registers = new.registers; memory = new.memory }
 
 -- a deed of client c was made on the card
 pub record IsMade (v : ReplayState) (c : ℕ) (deed : Deed) (old new : Contents) : Type 0 where

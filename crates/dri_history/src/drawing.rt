@@ -9,40 +9,22 @@ ghost use Rattle.dri_base.specs.declared.colour.Pixel.{Pixel};
 ghost use Rattle.dri_base.specs.declared.shape.Triangle.{Triangle};
 ghost use Rattle.dri_card.specs.Contents.{HaveSides};
 ghost use Rattle.dri_card.specs.Drawing.{drawn};
-ghost use Rattle.dri_history.specs.Follows.{IsMade, OnlyLoaded};
+ghost use Rattle.dri_history.specs.Follows.{IsMade};
 ghost use Rattle.dri_journal.specs.declared.deed.Deed.TheVariants as Deed_is;
-ghost use Rattle.dri_model.specs.Groups.{all_groups};
-ghost use Rattle.dri_model.specs.Words.{IsBoundInRange, IsScissorInRange, emitted_words};
+ghost use Rattle.dri_replay.specs.Cards.{OnlyLoaded};
 ghost use Rattle.dri_replay.specs.Makings.{state_now};
 
-use dri_base::{BoundTexture, Setting, State, Triangle};
+use dri_base::Triangle;
 use dri_card::Card;
-use dri_context::{ContextState, EmitWords, Groups};
 use dri_draw::draw_clips;
 use dri_journal::Replay;
 use dri_meaning::{bytes_of, registers_alone, texture_bound};
+use dri_replay::state_words;
 use std::marker::Brand;
 use std::sync::ledger::Blank;
 
 /// Where an image begins in the card's texture memory.
 const FIRST_BYTE: u32 = 0;
-
-// The words of all groups of a state, with the texture that is bound where it's placed.
-fn words_of(state: &State, bound: Option<BoundTexture>) -> EmitWords
-    requires scissor { IsScissorInRange state.now.scissor }
-    requires bound { IsBoundInRange bound }
-    ensures { result ≡ emitted_words all_groups state.now bound }
-{
-    let mut context = ContextState::new();
-    context.set(&Setting::Shade(state.shade));
-    context.set(&Setting::DepthFunc(state.depth_func));
-    context.set(&Setting::DepthWrite(state.depth_write));
-    context.set(&Setting::Blend(state.blend));
-    context.set(&Setting::TexMode(state.tex_mode));
-    context.set(&Setting::Wrap(state.wrap));
-    context.set(&Setting::Scissor(state.scissor));
-    context.emit_words(Groups::all(), bound)
-}
 
 // Loads a client's own state and texture.
 fn load(card: &mut Card, replay: &Replay<'_>, client: u32)
@@ -55,7 +37,7 @@ fn load(card: &mut Card, replay: &Replay<'_>, client: u32)
     replay.entries();
     let state = replay.state(client);
     let image = texture_bound(replay.script(client).textures.as_slice(), state.bound);
-    let words = words_of(&state, registers_alone(&state, image).bound);
+    let words = state_words(&state, registers_alone(&state, image).bound);
     card.upload(FIRST_BYTE, bytes_of(image)).unwrap();
     card.load_registers(words.words()).unwrap();
 }

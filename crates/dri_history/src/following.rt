@@ -4,9 +4,10 @@
 ghost use Rattle.std.specs.Prelude.{◌≡◌, length, Contains};
 ghost use Rattle.dri_base.specs.Ranges.{client_numbers, heap_bytes};
 ghost use Rattle.dri_card.specs.Contents.{HaveSides};
-ghost use Rattle.dri_history.specs.Follows.{Follows, IsFollowing, IsMade};
+ghost use Rattle.dri_history.specs.Follows.{IsFollowing, IsMade};
 ghost use Rattle.dri_journal.specs.Replays.{world_of};
 ghost use Rattle.dri_journal.specs.declared.deed.Deed.TheVariants as Deed_is;
+ghost use Rattle.dri_replay.specs.Cards.{Follows};
 ghost use Rattle.dri_replay.specs.Makings.{CanShow, MayMake};
 
 use crate::drawing::draw;

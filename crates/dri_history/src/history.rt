@@ -5,10 +5,11 @@ ghost use Rattle.dri_base.specs.Limits.{word_end};
 ghost use Rattle.dri_base.specs.Ranges.{InRange};
 ghost use Rattle.dri_core.specs.FirstBad.{IsFirstBad};
 ghost use Rattle.dri_core.specs.Runs.{HoldRun};
-ghost use Rattle.dri_history.specs.Follows.{Follows, IsTelling};
+ghost use Rattle.dri_history.specs.Follows.{IsTelling};
 ghost use Rattle.dri_history.specs.Histories.{HasHistory};
 ghost use Rattle.dri_history.specs.Touches.{one_touch};
 ghost use Rattle.dri_journal.specs.Replays.{world_of};
+ghost use Rattle.dri_replay.specs.Cards.{Follows};
 ghost use Rattle.dri_replay.specs.declared.fault.ReplayFault.TheVariants as faults;
 
 use crate::following::follow;

@@ -4,3 +4,7 @@ pub mod Stacked
 pub mod Lifted
 -- The entries of a journal one after the other
 pub mod Taken
+-- What is loaded before a triangle
+pub mod Loading
+-- A card that follows a replay
+pub mod Cards

@@ -11,6 +11,7 @@ use Rattle.dri_base.specs.Scenes.{command_at, commands_of, script_in, textures_o
 use Rattle.dri_base.specs.States.{state_at}
 use Rattle.dri_base.specs.Texels.{own_image}
 use Rattle.dri_base.specs.declared.colour.Pixel.{Pixel}
+use Rattle.dri_base.specs.declared.colour.Rgb.{Rgb}
 use Rattle.dri_base.specs.declared.command.Change.{Change as WindowChange}
 use Rattle.dri_base.specs.declared.command.Command.{Command}
 use Rattle.dri_base.specs.declared.command.Command.TheVariants as Command_is
@@ -46,11 +47,15 @@ use Rattle.dri_model.specs.Stacks.{Refusal, changed as changed_stack, moves, mov
 abbrev pub with_entry : Scene → List Entry → Entry → ReplayState
 with_entry s j e = record { scene = s; entries = j ++ e ∷ [] }
 
--- a deed makes of the planes what its entry makes of them
-record IsLifted (s : Scene) (j : List Entry) (e : Entry) (deed : Deed) : Type 0 where
+-- the world that the entries leave, with these planes
+abbrev pub planed : Scene → List Entry → (ℕ → ℕ → Pixel) → (ℕ → ℕ → Rgb) → World
+planed s j f shown = record (after s j) { front = shown; back = f }
+
+-- a deed makes of any planes what its entry makes of them
+record IsLifted (s : Scene) (j : List Entry) (f : ℕ → ℕ → Pixel) (shown : ℕ → ℕ → Rgb) (e : Entry) (deed : Deed) : Type 0 where
   pub may : MayMake (with_entry s j e) (client_of e) deed
-  pub front : (x y : ℕ) → x < s.width → y < s.height → front_made (with_entry s j e) (client_of e) deed (after s j).back (after s j).front x y ≡ front_by s (after s j) e x y
-  pub back : (x y : ℕ) → back_made (with_entry s j e) (client_of e) deed (after s j).back x y ≡ back_by s (after s j) e x y
+  pub front : (x y : ℕ) → x < s.width → y < s.height → front_made (with_entry s j e) (client_of e) deed f shown x y ≡ front_by s (planed s j f shown) e x y
+  pub back : (x y : ℕ) → back_made (with_entry s j e) (client_of e) deed f x y ≡ back_by s (planed s j f shown) e x y
 
 -- a command that is there
 no_command : (cs : List Command) (k : ℕ) (x : Command) → slice_get cs k ≡ Some x → cs ≢ []
@@ -90,41 +95,19 @@ module _ (s : Scene) (j : List Entry) (good : InRange s) (run : HoldRun s j) whe
     pub clips_same : (x y : ℕ) → clips_now (with_entry s j (Entry_is.Run c i)) c x y ≡ clips_in s (after s j) c x y
     clips_same x y = ap (λ (u : World). clips_in s u c x y) (after-push s j (Entry_is.Run c i))
 
-    across_same : (x : ℕ) → across s (world_of (with_entry s j (Entry_is.Run c i))) c x ≡ across s (after s j) c x
+    pub across_same : (x : ℕ) → across s (world_of (with_entry s j (Entry_is.Run c i))) c x ≡ across s (after s j) c x
     across_same x = ap (λ (u : World). across s u c x) (after-push s j (Entry_is.Run c i))
 
-    down_same : (y : ℕ) → down s (world_of (with_entry s j (Entry_is.Run c i))) c y ≡ down s (after s j) c y
+    pub down_same : (y : ℕ) → down s (world_of (with_entry s j (Entry_is.Run c i))) c y ≡ down s (after s j) c y
     down_same y = ap (λ (u : World). down s u c y) (after-push s j (Entry_is.Run c i))
 
     part_now : (world_of (with_entry s j (Entry_is.Run c i))).client c ≡ run_by s (after s j) c i
     part_now = ap (λ (u : World). u.client c) (after-push s j (Entry_is.Run c i)) ∙ put_here (after s j).client c (run_by s (after s j) c i)
 
-    state_same : (t : Triangle) → command_at s c i ≡ Some (Command_is.Triangle t) → state_now (with_entry s j (Entry_is.Run c i)) c ≡ state_at (commands_of s c) i
+    pub state_same : (t : Triangle) → command_at s c i ≡ Some (Command_is.Triangle t) → state_now (with_entry s j (Entry_is.Run c i)) c ≡ state_at (commands_of s c) i
     state_same t e =
         let kept : (run_by s (after s j) c i).state ≡ ((after s j).client c).state = rw e refl in
         ap (λ (p : Private). p.state) part_now ∙ kept ∙ (sound_after s j (well_formed s good) run).main.state c ∙ ap (state_at (commands_of s c)) (sym legal.1)
-
-    -- back after the run of a command
-    back_ran : (o : Option Command) → command_at s c i ≡ o → (x y : ℕ) → back_made (with_entry s j (Entry_is.Run c i)) c (deed_by o) (after s j).back x y ≡ back_by s (after s j) (Entry_is.Run c i) x y
-    back_ran (Some (Command_is.Clear colour depth)) e x y = rw (e, clips_same x y) refl
-    back_ran (Some (Command_is.Triangle t)) e x y =
-        let st = state_same t e in
-        rw (e, clips_same x y) (λ k. if clips_in s (after s j) c x y then fragment (rules_of (st k)) (own_image (textures_of s c) (st k).bound) t (across_same x k) (down_same y k) ((after s j).back x y) else (after s j).back x y)
-    back_ran None e x y = rw e (only_same (clips_in s (after s j) c x y) ((after s j).back x y))
-    back_ran (Some Command_is.Swap) e x y = rw e (only_same (clips_in s (after s j) c x y) ((after s j).back x y))
-    back_ran (Some Command_is.Yield) e x y = rw e (only_same (clips_in s (after s j) c x y) ((after s j).back x y))
-    back_ran (Some Command_is.Die) e x y = rw e (only_same (clips_in s (after s j) c x y) ((after s j).back x y))
-    back_ran (Some (Command_is.Set setting)) e x y = rw e (only_same (clips_in s (after s j) c x y) ((after s j).back x y))
-
-    -- front after it
-    front_ran : (o : Option Command) → command_at s c i ≡ o → (x y : ℕ) → front_made (with_entry s j (Entry_is.Run c i)) c (deed_by o) (after s j).back (after s j).front x y ≡ front_by s (after s j) (Entry_is.Run c i) x y
-    front_ran (Some Command_is.Swap) e x y = rw (e, clips_same x y) refl
-    front_ran (Some (Command_is.Clear colour depth)) e x y = rw e refl
-    front_ran (Some (Command_is.Triangle t)) e x y = rw e refl
-    front_ran (Some Command_is.Yield) e x y = rw e refl
-    front_ran (Some Command_is.Die) e x y = rw e refl
-    front_ran (Some (Command_is.Set setting)) e x y = rw e refl
-    front_ran None e x y = rw e refl
 
     -- what it needs
     there : (x : Command) → command_at s c i ≡ Some x → Contains (client_numbers s.clients) c
@@ -139,72 +122,102 @@ module _ (s : Scene) (j : List Entry) (good : InRange s) (run : HoldRun s j) whe
     may_run (Some (Command_is.Set setting)) e = tt
     may_run None e = tt
 
-  ran : (c i : ℕ) (deed : Deed) → LegalEntry s (after s j) (Entry_is.Run c i) → deed ≡ deed_by (command_at s c i) → IsLifted s j (Entry_is.Run c i) deed
-  ran c i deed legal does = subst (IsLifted s j (Entry_is.Run c i)) (sym does) (record {
-    may = may_run c i legal (command_at s c i) refl;
-    front = λ x y column row. front_ran c i legal (command_at s c i) refl x y;
-    back = back_ran c i legal (command_at s c i) refl;
-  })
+  module _ (f : ℕ → ℕ → Pixel) (shown : ℕ → ℕ → Rgb) where
+    -- back after the run of a command
+    back_ran : (c i : ℕ) → LegalEntry s (after s j) (Entry_is.Run c i) → (o : Option Command) → command_at s c i ≡ o → (x y : ℕ) → back_made (with_entry s j (Entry_is.Run c i)) c (deed_by o) f x y ≡ back_by s (planed s j f shown) (Entry_is.Run c i) x y
+    back_ran c i legal (Some (Command_is.Clear colour depth)) e x y = rw (e, clips_same c i legal x y) refl
+    back_ran c i legal (Some (Command_is.Triangle t)) e x y =
+        let st = state_same c i legal t e in
+        rw (e, clips_same c i legal x y) (λ k. if clips_in s (after s j) c x y then fragment (rules_of (st k)) (own_image (textures_of s c) (st k).bound) t (across_same c i legal x k) (down_same c i legal y k) (f x y) else f x y)
+    back_ran c i legal None e x y = rw e (only_same (clips_in s (after s j) c x y) (f x y))
+    back_ran c i legal (Some Command_is.Swap) e x y = rw e (only_same (clips_in s (after s j) c x y) (f x y))
+    back_ran c i legal (Some Command_is.Yield) e x y = rw e (only_same (clips_in s (after s j) c x y) (f x y))
+    back_ran c i legal (Some Command_is.Die) e x y = rw e (only_same (clips_in s (after s j) c x y) (f x y))
+    back_ran c i legal (Some (Command_is.Set setting)) e x y = rw e (only_same (clips_in s (after s j) c x y) (f x y))
 
-  changed : (i : ℕ) (deed : Deed) → Does s (after s j) (Entry_is.Change i) deed → IsLifted s j (Entry_is.Change i) deed
-  changed i (Deed_is.Touched touched) does =
-      let moved = next_moved s (after s j) in let new = next_stack s (after s j) in
-      record {
-        may = can_show s.width s.height s.root (after s j).stack new moved touched does.1.carry does.1.paints;
-        front = filled_is s.width s.height s.root (after s j).stack new moved touched (after s j).front does.1.carry does.1.paints;
-        back = along_is s.width s.height (after s j).stack new moved touched.carry (after s j).back does.1.carry;
-      }
-  changed i Deed_is.Nothing does =
-      let stays = refused_stays (after s j).stack (slice_get s.changes (after s j).made) does in
-      record {
-        may = tt;
-        front = λ x y column row. unpainted_same s.root (after s j).stack (after s j).front x y ∙ (λ k. front_restacked s (after s j) (sym stays.0 k) (sym stays.1 k) x y);
-        back = λ x y k. back_restacked s (after s j) (sym stays.0 k) (sym stays.1 k) x y;
-      }
-  changed i (Deed_is.Clear colour depth) does = absurd does
-  changed i (Deed_is.Triangle t) does = absurd does
-  changed i Deed_is.Swap does = absurd does
+    -- front after it
+    front_ran : (c i : ℕ) → LegalEntry s (after s j) (Entry_is.Run c i) → (o : Option Command) → command_at s c i ≡ o → (x y : ℕ) → front_made (with_entry s j (Entry_is.Run c i)) c (deed_by o) f shown x y ≡ front_by s (planed s j f shown) (Entry_is.Run c i) x y
+    front_ran c i legal (Some Command_is.Swap) e x y = rw (e, clips_same c i legal x y) refl
+    front_ran c i legal (Some (Command_is.Clear colour depth)) e x y = rw e refl
+    front_ran c i legal (Some (Command_is.Triangle t)) e x y = rw e refl
+    front_ran c i legal (Some Command_is.Yield) e x y = rw e refl
+    front_ran c i legal (Some Command_is.Die) e x y = rw e refl
+    front_ran c i legal (Some (Command_is.Set setting)) e x y = rw e refl
+    front_ran c i legal None e x y = rw e refl
 
-  gone : (c : ℕ) (deed : Deed) → Does s (after s j) (Entry_is.Gone c) deed → IsLifted s j (Entry_is.Gone c) deed
-  gone c (Deed_is.Touched touched) does =
-      let new = without_owner c (after s j).stack in
-      record {
-        may = can_show s.width s.height s.root (after s j).stack new None touched does.1.carry does.1.paints;
-        front = filled_is s.width s.height s.root (after s j).stack new None touched (after s j).front does.1.carry does.1.paints;
-        back = along_is s.width s.height (after s j).stack new None touched.carry (after s j).back does.1.carry;
-      }
-  gone c Deed_is.Nothing does = absurd (true≢false (sym does))
-  gone c (Deed_is.Clear colour depth) does = absurd does
-  gone c (Deed_is.Triangle t) does = absurd does
-  gone c Deed_is.Swap does = absurd does
+    ran : (c i : ℕ) (deed : Deed) → LegalEntry s (after s j) (Entry_is.Run c i) → deed ≡ deed_by (command_at s c i) → IsLifted s j f shown (Entry_is.Run c i) deed
+    ran c i deed legal does = subst (IsLifted s j f shown (Entry_is.Run c i)) (sym does) (record {
+      may = may_run c i legal (command_at s c i) refl;
+      front = λ x y column row. front_ran c i legal (command_at s c i) refl x y;
+      back = back_ran c i legal (command_at s c i) refl;
+    })
 
-  nothing : (e : Entry) → IsLifted s j e Deed_is.Nothing → (deed : Deed) → deed ≡ Deed_is.Nothing → IsLifted s j e deed
-  nothing e is deed does = subst (IsLifted s j e) (sym does) is
+    changed : (i : ℕ) (deed : Deed) → Does s (after s j) (Entry_is.Change i) deed → IsLifted s j f shown (Entry_is.Change i) deed
+    changed i (Deed_is.Touched touched) does =
+        let moved = next_moved s (after s j) in let new = next_stack s (after s j) in
+        record {
+          may = can_show s.width s.height s.root (after s j).stack new moved touched does.1.carry does.1.paints;
+          front = filled_is s.width s.height s.root (after s j).stack new moved touched shown does.1.carry does.1.paints;
+          back = along_is s.width s.height (after s j).stack new moved touched.carry f does.1.carry;
+        }
+    changed i Deed_is.Nothing does =
+        let stays = refused_stays (after s j).stack (slice_get s.changes (after s j).made) does in
+        record {
+          may = tt;
+          front = λ x y column row. unpainted_same s.root (after s j).stack shown x y ∙ (λ k. front_restacked s (planed s j f shown) (sym stays.0 k) (sym stays.1 k) x y);
+          back = λ x y k. back_restacked s (planed s j f shown) (sym stays.0 k) (sym stays.1 k) x y;
+        }
+    changed i (Deed_is.Clear colour depth) does = absurd does
+    changed i (Deed_is.Triangle t) does = absurd does
+    changed i Deed_is.Swap does = absurd does
 
-  lifted : (e : Entry) (deed : Deed) → LegalEntry s (after s j) e → Does s (after s j) e deed → IsLifted s j e deed
-  lifted (Entry_is.Run c i) deed legal does = ran c i deed legal does
-  lifted (Entry_is.Change i) deed legal does = changed i deed does
-  lifted (Entry_is.Gone c) deed legal does = gone c deed does
-  lifted (Entry_is.Light c) deed legal does = nothing (Entry_is.Light c) (record { may = tt; front = λ x y column row. refl; back = λ x y. refl }) deed does
-  lifted (Entry_is.Kernel c found) deed legal does = nothing (Entry_is.Kernel c found) (record { may = tt; front = λ x y column row. refl; back = λ x y. refl }) deed does
-  lifted (Entry_is.Stale c) deed legal does = nothing (Entry_is.Stale c) (record { may = tt; front = λ x y column row. refl; back = λ x y. refl }) deed does
-  lifted (Entry_is.Emit c groups) deed legal does = nothing (Entry_is.Emit c groups) (record { may = tt; front = λ x y column row. refl; back = λ x y. refl }) deed does
-  lifted (Entry_is.Place c t first count) deed legal does = nothing (Entry_is.Place c t first count) (record { may = tt; front = λ x y column row. refl; back = λ x y. refl }) deed does
-  lifted (Entry_is.Leave c) deed legal does = nothing (Entry_is.Leave c) (record { may = tt; front = λ x y column row. refl; back = λ x y. refl }) deed does
-  lifted (Entry_is.Info c) deed legal does = nothing (Entry_is.Info c) (record { may = tt; front = λ x y column row. refl; back = λ x y. refl }) deed does
+    gone : (c : ℕ) (deed : Deed) → Does s (after s j) (Entry_is.Gone c) deed → IsLifted s j f shown (Entry_is.Gone c) deed
+    gone c (Deed_is.Touched touched) does =
+        let new = without_owner c (after s j).stack in
+        record {
+          may = can_show s.width s.height s.root (after s j).stack new None touched does.1.carry does.1.paints;
+          front = filled_is s.width s.height s.root (after s j).stack new None touched shown does.1.carry does.1.paints;
+          back = along_is s.width s.height (after s j).stack new None touched.carry f does.1.carry;
+        }
+    gone c Deed_is.Nothing does = absurd (true≢false (sym does))
+    gone c (Deed_is.Clear colour depth) does = absurd does
+    gone c (Deed_is.Triangle t) does = absurd does
+    gone c Deed_is.Swap does = absurd does
+
+    nothing : (e : Entry) → IsLifted s j f shown e Deed_is.Nothing → (deed : Deed) → deed ≡ Deed_is.Nothing → IsLifted s j f shown e deed
+    nothing e is deed does = subst (IsLifted s j f shown e) (sym does) is
+
+    lifted : (e : Entry) (deed : Deed) → LegalEntry s (after s j) e → Does s (after s j) e deed → IsLifted s j f shown e deed
+    lifted (Entry_is.Run c i) deed legal does = ran c i deed legal does
+    lifted (Entry_is.Change i) deed legal does = changed i deed does
+    lifted (Entry_is.Gone c) deed legal does = gone c deed does
+    lifted (Entry_is.Light c) deed legal does = nothing (Entry_is.Light c) (record { may = tt; front = λ x y column row. refl; back = λ x y. refl }) deed does
+    lifted (Entry_is.Kernel c found) deed legal does = nothing (Entry_is.Kernel c found) (record { may = tt; front = λ x y column row. refl; back = λ x y. refl }) deed does
+    lifted (Entry_is.Stale c) deed legal does = nothing (Entry_is.Stale c) (record { may = tt; front = λ x y column row. refl; back = λ x y. refl }) deed does
+    lifted (Entry_is.Emit c groups) deed legal does = nothing (Entry_is.Emit c groups) (record { may = tt; front = λ x y column row. refl; back = λ x y. refl }) deed does
+    lifted (Entry_is.Place c t first count) deed legal does = nothing (Entry_is.Place c t first count) (record { may = tt; front = λ x y column row. refl; back = λ x y. refl }) deed does
+    lifted (Entry_is.Leave c) deed legal does = nothing (Entry_is.Leave c) (record { may = tt; front = λ x y column row. refl; back = λ x y. refl }) deed does
+    lifted (Entry_is.Info c) deed legal does = nothing (Entry_is.Info c) (record { may = tt; front = λ x y column row. refl; back = λ x y. refl }) deed does
 
   module _ (e : Entry) (deed : Deed) (legal : LegalEntry s (after s j) e) (does : Does s (after s j) e deed) where
     -- what the deed needs
     pub may_make : MayMake (with_entry s j e) (client_of e) deed
-    may_make = (lifted e deed legal does).may
+    may_make = (lifted (after s j).back (after s j).front e deed legal does).may
 
-    -- front and back after it are those of the world that the entry leaves
+    -- front and back after it are what the entry makes of any planes
+    pub front_lifted : (f : ℕ → ℕ → Pixel) (shown : ℕ → ℕ → Rgb) (x y : ℕ) → x < s.width → y < s.height → front_made (with_entry s j e) (client_of e) deed f shown x y ≡ front_by s (planed s j f shown) e x y
+    front_lifted f shown = (lifted f shown e deed legal does).front
+
+    pub back_lifted : (f : ℕ → ℕ → Pixel) (shown : ℕ → ℕ → Rgb) (x y : ℕ) → back_made (with_entry s j e) (client_of e) deed f x y ≡ back_by s (planed s j f shown) e x y
+    back_lifted f shown = (lifted f shown e deed legal does).back
+
+    -- and of the world's planes those of the world that the entry leaves
     pub front_after : (x y : ℕ) → x < s.width → y < s.height → front_made (with_entry s j e) (client_of e) deed (after s j).back (after s j).front x y ≡ (world_of (with_entry s j e)).front x y
     front_after x y column row =
-        (lifted e deed legal does).front x y column row ∙ sym ((plane_step s j e good run legal).front x y) ∙ ap (λ (u : World). u.front x y) (sym (after-push s j e))
+        front_lifted (after s j).back (after s j).front x y column row ∙ sym ((plane_step s j e good run legal).front x y) ∙ ap (λ (u : World). u.front x y) (sym (after-push s j e))
 
     pub back_after : (x y : ℕ) → back_made (with_entry s j e) (client_of e) deed (after s j).back x y ≡ (world_of (with_entry s j e)).back x y
-    back_after x y = (lifted e deed legal does).back x y ∙ sym ((plane_step s j e good run legal).back x y) ∙ ap (λ (u : World). u.back x y) (sym (after-push s j e))
+    back_after x y = back_lifted (after s j).back (after s j).front x y ∙ sym ((plane_step s j e good run legal).back x y) ∙ ap (λ (u : World). u.back x y) (sym (after-push s j e))
 
 -- the value after an entry was taken
 pub taken : (old new : ReplayState) (e : Entry) → Took old new e → with_entry old.scene old.entries e ≡ new

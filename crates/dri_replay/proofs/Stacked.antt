@@ -1,12 +1,13 @@
 -- Paints one after the other, and what a new stack leaves.
-use Rattle.std.proofs.Common.{◌≡◌, ◌<◌, ℕ, zero, suc, ◌+◌, ℤ, pos, ◌-ℤ◌, List, [], ◌∷◌, take, length, Bool, true, false, ◌&&◌, if◌then◌else◌, Option, Some, None, IfSome, slice_index_or, refl, ◌∙◌, sym, ap, subst, arith, AllPairs}
+use Rattle.std.proofs.Common.{◌≡◌, ◌<◌, ◌≤◌, ℕ, zero, suc, ◌+◌, ℤ, pos, ◌-ℤ◌, List, [], ◌∷◌, take, length, Bool, true, false, ◌&&◌, if◌then◌else◌, Option, Some, None, IfSome, slice_index_or, refl, ◌∙◌, sym, ap, subst, arith, All, AllPairs}
 use Rattle.std.proofs.lemmas.Bool.Decides.{nat_tests}
+use Rattle.std.proofs.lemmas.Int.{ints}
 use Rattle.std.specs.Option.{unwrap_or}
 use Rattle.dri_base.specs.declared.colour.Rgb.{Rgb}
 use Rattle.dri_base.specs.declared.scene.Window.{Window}
 use Rattle.dri_base.specs.declared.shape.ClipRect.{ClipRect}
 use Rattle.dri_base.specs.Planes.{in_rect}
-use Rattle.dri_card.specs.Drawing.{painted as painted_in}
+use Rattle.dri_card.specs.Drawing.{IsCarry, painted as painted_in}
 use Rattle.dri_base.specs.Rectangles.{AreApart, in_rects}
 use Rattle.dri_clips.specs.Paints.{ArePaints, IsCarried, StaysOnScreen, filled, paint_at}
 use Rattle.dri_clips.specs.declared.touched.Carry.{Carry}
@@ -78,6 +79,16 @@ stays_inside dx dy width height r stays = record {
   top = stays.top;
   bottom = stays.bottom;
 }
+
+-- what stays on a screen doesn't go far
+pub goes_near : (dx dy : ℤ) (width height : ℕ) (rects : List ClipRect) → width ≤ 1024 → height ≤ 1024 → 0 < length rects → All (StaysOnScreen dx dy width height) rects → IsCarry dx × IsCarry dy
+goes_near dx dy width height [] wide high some each = absurd (omega arith)
+goes_near dx dy width height (r ∷ rects) wide high some each =
+    let at = each 0 r (omega arith) in
+    let on = at.before in (
+      (omega (arith, ints, wide, on.right, on.across, at.left), omega (arith, ints, wide, on.right, on.across, at.right)),
+      (omega (arith, ints, high, on.bottom, on.down, at.top), omega (arith, ints, high, on.bottom, on.down, at.bottom)),
+    )
 
 -- a new stack is carried and painted on the screen
 pub can_show : (width height : ℕ) (root : Rgb) (old new : List Window) (moved : Option ℕ) (touched : Touched) → IsCarried width height old new moved touched.carry → ArePaints width height root old new moved touched.paints → CanShow width height touched

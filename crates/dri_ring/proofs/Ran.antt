@@ -1,27 +1,22 @@
 -- What a job makes of the card: its effect.
-use Rattle.std.proofs.Common.{◌≡◌, ◌≤◌, ◌<◌, ◌+◌, ◌-ℤ◌, ℕ, ℤ, pos, List, length, Bool, true, false, Option, Some, None, if◌then◌else◌, refl, sym, ◌∙◌, ap, arith, subst, get_or}
+use Rattle.std.proofs.Common.{◌≡◌, ◌<◌, ◌+◌, ◌-ℤ◌, ℕ, ℤ, pos, List, length, Bool, true, false, Option, Some, if◌then◌else◌, refl, sym, ◌∙◌, ap, subst, get_or}
 use Rattle.dri_base.specs.declared.colour.Pixel.{Pixel}
 use Rattle.dri_base.specs.declared.colour.Rgb.{Rgb}
-use Rattle.dri_base.specs.declared.colour.Rgba.{Rgba}
 use Rattle.dri_base.specs.declared.scene.Scene.{Scene}
 use Rattle.dri_base.specs.declared.shape.Point.{Point}
 use Rattle.dri_base.specs.declared.shape.Rect.{Rect}
 use Rattle.dri_base.specs.declared.shape.Triangle.{Triangle}
 use Rattle.dri_base.specs.declared.state.Registers.{Registers}
-use Rattle.dri_base.specs.declared.state.TexMode.{TexMode}
-use Rattle.dri_base.specs.declared.state.TexMode.TheVariants as Mode_is
-use Rattle.dri_base.specs.declared.state.Wrap.{Wrap}
 use Rattle.dri_base.specs.declared.texture.BoundTexture.{BoundTexture}
 use Rattle.dri_base.specs.declared.texture.Texture.{Texture}
-use Rattle.dri_base.specs.Fragments.{Rules, fragment, textured, with_texel}
-use Rattle.dri_base.specs.Ranges.{InRange, TextureInRange, heap_bytes}
+use Rattle.dri_base.specs.Fragments.{Rules, fragment}
+use Rattle.dri_base.specs.Ranges.{InRange, heap_bytes}
 use Rattle.dri_base.specs.Scenes.{IsWhole, bytes_of, textures_of}
 use Rattle.dri_base.specs.Texels.{given_image, own_image, texture_bound}
-use Rattle.dri_base.proofs.RangeLemmas.{textures_in_range}
 use Rattle.dri_card.specs.Contents.{IsOpening as IsOpeningCard}
 use Rattle.dri_card.specs.Contents.{Contents, HaveSides, Holds, KeepSides, Shows, memory_of}
 use Rattle.dri_card.specs.Drawing.{OnlyDrawn, OnlyShown, drawn}
-use Rattle.dri_core.proofs.Draws.{fragment_same, texel_same}
+use Rattle.dri_core.proofs.Draws.{fragment_same}
 use Rattle.dri_core.proofs.TextureUses.{uploaded_at}
 use Rattle.dri_meaning.specs.Canvases.{bound_first}
 use Rattle.dri_model.specs.Heaps.{uploaded}
@@ -29,7 +24,9 @@ use Rattle.dri_model.specs.Words.{card_image, loaded, rules_in}
 use Rattle.dri_walk.specs.Samplings.{IsImageWithin}
 use Rattle.dri_draw.specs.Drawing.{OnlyDrawnOn, cleared_in, drawn_in, in_clips, swapped_in}
 use Rattle.dri_draw.proofs.Drawn.{holds_same, holds_shown}
-use Rattle.dri_ring.specs.Cards.{IsCardOf, OnlyLoaded}
+use Rattle.dri_replay.proofs.Loading.{image_fits, image_whole, texel_given}
+use Rattle.dri_replay.specs.Cards.{OnlyLoaded}
+use Rattle.dri_ring.specs.Cards.{IsCardOf}
 use Rattle.dri_ring.specs.Jobs.{Planes, SpellAll, effect, spelled_rules}
 use Rattle.dri_ring.specs.Rings.{HaveSides as PlaneSides}
 use Rattle.dri_ring.specs.Rings.{Show, opening_planes, read}
@@ -38,42 +35,10 @@ use Rattle.dri_ring.specs.declared.job.Job.TheVariants as Job_is
 use Rattle.dri_ring.proofs.Kept.{shows_own}
 use Rattle.dri_ring.proofs.Spells.{all_loaded, rules_spelled}
 
--- the texture that a job names is in range, where it is there
-named_in_range : (s : Scene) (client : ℕ) (number : Option ℕ) (t : Texture) → InRange s → texture_bound (textures_of s client) number ≡ Some t → TextureInRange (heap_bytes s) t
-named_in_range s client None t good e = absurd (none_some e)
-  where
-    none_some : None ≡ Some t → ⊥
-    none_some is = grind arith
-named_in_range s client (Some n) t good e = textures_in_range s client n t good e
-
--- its bytes lie in the heap
-pub bytes_fit : (s : Scene) (client : ℕ) (number : Option ℕ) → InRange s → length (bytes_of (texture_bound (textures_of s client) number)) ≤ heap_bytes s
-bytes_fit s client number good = by (texture_bound (textures_of s client) number) refl
-  where
-    by : (o : Option Texture) → texture_bound (textures_of s client) number ≡ o → length (bytes_of o) ≤ heap_bytes s
-    by None e = omega arith
-    by (Some t) e = (named_in_range s client number t good e).fits
-
--- and so does its image, from the first byte on
-pub image_fits : (s : Scene) (client : ℕ) (number : Option ℕ) (bytes : ℕ) → InRange s → bytes ≡ heap_bytes s → IsImageWithin bytes (bound_first (texture_bound (textures_of s client) number))
-image_fits s client number bytes good all = by (texture_bound (textures_of s client) number) refl
-  where
-    by : (o : Option Texture) → texture_bound (textures_of s client) number ≡ o → IsImageWithin bytes (bound_first o)
-    by None e = tt
-    by (Some t) e = let range = named_in_range s client number t good e in omega (arith, all, range.whole, range.fits)
-
 -- so its words can be loaded
 pub loads_within : (s : Scene) (client : ℕ) (number : Option ℕ) (words : List ℕ) (v : Contents) → InRange s → length v.memory ≡ heap_bytes s → (all : SpellAll s client number words) → IsImageWithin (length v.memory) (loaded all.spelled.groups all.spelled.registers v.registers).bound
 loads_within s client number words v good bytes all =
-    subst (IsImageWithin (length v.memory)) (sym (ap (λ (r : Registers). r.bound) (all_loaded all.spelled.groups all.spelled.registers v.registers all.all) ∙ all.bound)) (image_fits s client number (length v.memory) good bytes)
-
--- a texture whose bytes begin the memory gives the texels of its image
-texel_given : (memory : ℕ → ℕ) (mode : TexMode) (wrap : Wrap) (o : Option Texture) (t : Triangle) (x y : ℤ) (c : Rgba) → ((k : ℕ) → k < length (bytes_of o) → memory (0 + k) ≡ get_or (bytes_of o) k 0) → ((p : Texture) → o ≡ Some p → IsWhole p)
-    → with_texel mode (card_image memory (bound_first o)) wrap t x y c ≡ with_texel mode (given_image o) wrap t x y c
-texel_given memory mode wrap None t x y c has whole = refl
-texel_given memory Mode_is.Off wrap (Some p) t x y c has whole = refl
-texel_given memory Mode_is.Replace wrap (Some p) t x y c has whole = ap (λ u. textured Mode_is.Replace u c) (texel_same p (λ n. memory (0 + n)) wrap _ _ (whole p refl) has)
-texel_given memory Mode_is.Modulate wrap (Some p) t x y c has whole = ap (λ u. textured Mode_is.Modulate u c) (texel_same p (λ n. memory (0 + n)) wrap _ _ (whole p refl) has)
+    subst (IsImageWithin (length v.memory)) (sym (ap (λ (r : Registers). r.bound) (all_loaded all.spelled.groups all.spelled.registers v.registers all.all) ∙ all.bound)) (image_fits s client number (texture_bound (textures_of s client) number) good refl (length v.memory) bytes)
 
 -- once a job's texture and its words are loaded, the card draws by them
 pub draws_loaded : (s : Scene) (client : ℕ) (number : Option ℕ) (words bytes : List ℕ) (old mid new : Contents) → InRange s → (all : SpellAll s client number words) → bytes ≡ bytes_of (texture_bound (textures_of s client) number)
@@ -98,14 +63,11 @@ draws_loaded s client number words bytes old mid new good all is memory register
     has k l = ap (λ (m : ℕ → ℕ). m (0 + k)) there ∙ uploaded_at (memory_of old) 0 (bytes_of own) k l
 
     whole : (p : Texture) → own ≡ Some p → IsWhole p
-    whole p e = let range = named_in_range s client number p good e in record { wide = omega (arith, range.wide.0); high = omega (arith, range.high.0); bytes = range.whole }
+    whole = image_whole s client number own good refl
 
 -- what the registers and the memory don't change
 pub loaded_shows : (old new : Contents) (p : Planes) → OnlyLoaded old new → Show old.front old.back old.depth p → Show new.front new.back new.depth p
 loaded_shows old new p only is = rw (ap (λ (v : Contents). v.front) only, ap (λ (v : Contents). v.back) only, ap (λ (v : Contents). v.depth) only) is
-
-pub loaded_sides : (old new : Contents) → OnlyLoaded old new → KeepSides old new
-loaded_sides old new only w h s = subst (λ (v : Contents). HaveSides v w h) (sym only) (record { front_width = s.front_width; front_height = s.front_height; back_width = s.back_width; back_height = s.back_height; depth_width = s.depth_width; depth_height = s.depth_height })
 
 -- a clear, a triangle whose image and words are loaded, and a copy of back to front
 pub ran_clear : (s : Scene) (clips : List Rect) (colour : Rgb) (depth : ℕ) (old new : Contents) (p : Planes) → ((f : ℕ → ℕ → Pixel) → Holds old f → Holds new (cleared_in clips colour depth f)) → OnlyDrawn old new

@@ -1,24 +1,11 @@
 -- What a new stack leaves on an idle engine's planes.
-use Rattle.std.proofs.Common.{◌≡◌, ◌≤◌, ◌<◌, ℕ, ℤ, List, [], ◌∷◌, length, take, slice_index_or, All, ◌∙◌, ap, subst, arith}
-use Rattle.std.proofs.lemmas.Int.{ints}
+use Rattle.std.proofs.Common.{◌≡◌, ◌≤◌, ◌<◌, ℕ, List, length, take, slice_index_or, All, ◌∙◌, ap, subst, arith}
 use Rattle.std.proofs.lemmas.List.{take_all}
 use Rattle.dri_base.specs.declared.colour.Rgb.{Rgb}
-use Rattle.dri_base.specs.declared.shape.ClipRect.{ClipRect}
-use Rattle.dri_card.specs.Drawing.{IsCarry}
-use Rattle.dri_clips.specs.Paints.{IsOnScreen, StaysOnScreen, filled}
+use Rattle.dri_clips.specs.Paints.{IsOnScreen, filled}
 use Rattle.dri_clips.specs.declared.touched.Paint.{Paint}
 use Rattle.dri_plane.specs.Grids.{IsInside}
 use Rattle.dri_ring.specs.Rings.{OnlyShown, Ring, Shows}
-
--- what stays on a screen doesn't go far
-pub goes_near : (dx dy : ℤ) (width height : ℕ) (rects : List ClipRect) → width ≤ 1024 → height ≤ 1024 → 0 < length rects → All (StaysOnScreen dx dy width height) rects → IsCarry dx × IsCarry dy
-goes_near dx dy width height [] wide high some each = absurd (omega arith)
-goes_near dx dy width height (r ∷ rects) wide high some each =
-    let at = each 0 r (omega arith) in
-    let on = at.before in (
-      (omega (arith, ints, wide, on.right, on.across, at.left), omega (arith, ints, wide, on.right, on.across, at.right)),
-      (omega (arith, ints, high, on.bottom, on.down, at.top), omega (arith, ints, high, on.bottom, on.down, at.bottom)),
-    )
 
 -- a paint of the screen lies on it
 pub paint_inside : (v w : Ring) (ps : List Paint) (i : ℕ) (d : Paint) → i < length ps → OnlyShown v w → All (λ p. IsOnScreen v.scene.width v.scene.height p.rect) ps → IsInside (slice_index_or ps i d).rect w.scene.width w.scene.height

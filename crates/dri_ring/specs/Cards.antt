@@ -17,7 +17,3 @@ pub record IsCardOf (s : Scene) (card : Contents) : Type 0 where
 pub record IsReady (s : Scene) (job : Job) : Type 0 where
   pub good : IsGood s job
   pub drawable : IsDrawable job
-
--- nothing but the registers and the texture memory differs
-abbrev pub OnlyLoaded : Contents → Contents → Type 0
-OnlyLoaded old new = new ≡ record old { registers = new.registers; memory = new.memory }

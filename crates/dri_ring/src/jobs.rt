@@ -3,16 +3,14 @@
 ghost use Rattle.std.specs.Prelude.{◌≡◌, Contains, IfOk};
 ghost use Rattle.dri_base.specs.Ranges.{client_numbers};
 ghost use Rattle.dri_base.specs.declared.shape.Rect.{Rect};
-ghost use Rattle.dri_model.specs.Groups.{all_groups};
-ghost use Rattle.dri_model.specs.Words.{IsBoundInRange, IsScissorInRange, emitted_words};
 ghost use Rattle.dri_ring.specs.Follows.{AreClipsNow, IsTriangleJob};
 
 use crate::job::Job;
-use dri_base::{BoundTexture, OutOfMemory, Setting, State, Steps, Triangle};
-use dri_context::{ContextState, EmitWords, Groups};
+use dri_base::{OutOfMemory, Steps, Triangle};
 use dri_journal::Replay;
 use dri_meaning::{registers_alone, texture_bound};
 use dri_rect::Region;
+use dri_replay::state_words;
 use std::alloc::Global;
 use std::marker::Brand;
 use std::sync::ledger::{Blank, Ledger};
@@ -54,26 +52,9 @@ pub fn triangle_job(
     Ok(Job::Draw {
         clips,
         origin: replay.origin(client),
-        words: words_of(&state, bound),
+        words: state_words(&state, bound),
         client,
         texture: state.bound,
         triangle: *triangle,
     })
-}
-
-// The words of all groups of a state, with the texture that is bound where it's placed.
-fn words_of(state: &State, bound: Option<BoundTexture>) -> EmitWords
-    requires scissor { IsScissorInRange state.now.scissor }
-    requires bound { IsBoundInRange bound }
-    ensures { result ≡ emitted_words all_groups state.now bound }
-{
-    let mut context = ContextState::new();
-    context.set(&Setting::Shade(state.shade));
-    context.set(&Setting::DepthFunc(state.depth_func));
-    context.set(&Setting::DepthWrite(state.depth_write));
-    context.set(&Setting::Blend(state.blend));
-    context.set(&Setting::TexMode(state.tex_mode));
-    context.set(&Setting::Wrap(state.wrap));
-    context.set(&Setting::Scissor(state.scissor));
-    context.emit_words(Groups::all(), bound)
 }

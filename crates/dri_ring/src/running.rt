@@ -8,7 +8,8 @@ ghost use Rattle.dri_base.specs.Texels.{own_image, texture_bound};
 ghost use Rattle.dri_base.specs.declared.colour.Pixel.{Pixel};
 ghost use Rattle.dri_base.specs.declared.shape.Triangle.{Triangle};
 ghost use Rattle.dri_card.specs.Drawing.{drawn};
-ghost use Rattle.dri_ring.specs.Cards.{IsCardOf, IsReady, OnlyLoaded};
+ghost use Rattle.dri_replay.specs.Cards.{OnlyLoaded};
+ghost use Rattle.dri_ring.specs.Cards.{IsCardOf, IsReady};
 ghost use Rattle.dri_ring.specs.Jobs.{Planes, SpellAll, effect, spelled_rules};
 ghost use Rattle.dri_ring.specs.Rings.{Show};
 

@@ -1,5 +1,6 @@
 -- A triangle is drawn in a client's window.
-use Rattle.dri_history.proofs.Made.{clips_stay, draw_made, loaded_sides, screen_of}
+use Rattle.dri_history.proofs.Made.{draw_made}
+use Rattle.dri_replay.proofs.Cards.{clips_stay, loaded_sides, screen_of}
 use Rattle.dri_history.proofs.drawing.draw.Goals as goal
 
 pub draw_clips-requires-clause-screen : goal.draw_clips-requires-clause-screen

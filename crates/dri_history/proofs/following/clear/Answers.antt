@@ -1,5 +1,6 @@
 -- In a client's clips.
-use Rattle.dri_history.proofs.Made.{clips_stay, screen_of, clear_made}
+use Rattle.dri_history.proofs.Made.{clear_made}
+use Rattle.dri_replay.proofs.Cards.{clips_stay, screen_of}
 use Rattle.dri_history.proofs.following.clear.Goals as goal
 
 pub clear_clips-requires-clause-screen : goal.clear_clips-requires-clause-screen

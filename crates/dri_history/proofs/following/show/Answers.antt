@@ -1,5 +1,6 @@
 -- What a new stack leaves.
-use Rattle.dri_history.proofs.Made.{screen_of, show_made}
+use Rattle.dri_history.proofs.Made.{show_made}
+use Rattle.dri_replay.proofs.Cards.{screen_of}
 use Rattle.dri_history.proofs.following.show.Goals as goal
 
 pub show-requires-clause-screen : goal.show-requires-clause-screen

@@ -1,5 +1,6 @@
 -- In a client's clips.
-use Rattle.dri_history.proofs.Made.{clips_stay, screen_of, swap_made}
+use Rattle.dri_history.proofs.Made.{swap_made}
+use Rattle.dri_replay.proofs.Cards.{clips_stay, screen_of}
 use Rattle.dri_history.proofs.following.swap.Goals as goal
 
 pub swap_clips-requires-clause-screen : goal.swap_clips-requires-clause-screen

@@ -1,8 +1,8 @@
 -- What stood there before, the deed, and what stands there after it.
 use Rattle.dri_history.proofs.Followed.{not_told}
-use Rattle.dri_history.proofs.Made.{aligned}
 use Rattle.dri_history.proofs.Told.{not_touching, touching}
 use Rattle.dri_journal.specs.Replays.{world_of}
+use Rattle.dri_replay.proofs.Cards.{aligned}
 use Rattle.dri_replay.proofs.Lifted.{may}
 use Rattle.dri_history.proofs.history.tell.Goals as goal
 

@@ -1,7 +1,7 @@
 -- The entries so far were taken, the card follows them, and they are told.
 use Rattle.std.proofs.Common.{take}
 use Rattle.dri_core.specs.Worlds.{opening}
-use Rattle.dri_history.specs.Follows.{Follows}
+use Rattle.dri_replay.specs.Cards.{Follows}
 use Rattle.dri_history.specs.Touches.{AreTouches}
 use Rattle.dri_journal.specs.Replays.{world_of}
 use Rattle.dri_replay.proofs.Taken.{AreTaken}

@@ -2,8 +2,7 @@
 use Rattle.std.proofs.Common.{rules, w32}
 use Rattle.std.proofs.lemmas.Int.{to_z-of_z}
 use mir.Val.{SFits}
-use Rattle.dri_replay.proofs.Stacked.{stays_inside}
-use Rattle.dri_history.proofs.Loading.{goes_near}
+use Rattle.dri_replay.proofs.Stacked.{goes_near, stays_inside}
 use Rattle.dri_history.proofs.showing.carry_along.Goals as goal
 
 pub carry-requires-clause-apart : goal.carry-requires-clause-apart

@@ -1,6 +1,6 @@
 -- What comes along, and then the paints.
 use Rattle.dri_draw.proofs.Drawn.{holds_shown, planes_shown, screen_kept}
-use Rattle.dri_history.proofs.Placing.{paints_kept}
+use Rattle.dri_replay.proofs.Cards.{paints_kept}
 use Rattle.dri_replay.specs.Makings.{carried_along}
 use Rattle.dri_history.proofs.showing.show.Goals as goal
 

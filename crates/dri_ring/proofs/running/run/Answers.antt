@@ -1,7 +1,8 @@
 -- Each kind of job has its effect.
 use Rattle.std.proofs.Common.{ap, length, ◌∙◌}
 use Rattle.dri_card.specs.Contents.{Contents}
-use Rattle.dri_ring.proofs.Ran.{loaded_shows, loaded_sides, ran_clear, ran_draw, ran_swap, still_card}
+use Rattle.dri_replay.proofs.Cards.{loaded_sides}
+use Rattle.dri_ring.proofs.Ran.{loaded_shows, ran_clear, ran_draw, ran_swap, still_card}
 use Rattle.dri_ring.proofs.running.run.Goals as goal
 
 pub returns-in-Clear-clause-planes : goal.returns-in-Clear-clause-planes

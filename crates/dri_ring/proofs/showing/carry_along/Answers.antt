@@ -1,7 +1,7 @@
 -- What is carried, where there is something.
 use Rattle.std.proofs.Common.{rules, w32}
 use Rattle.std.proofs.lemmas.Int.{to_z-of_z}
-use Rattle.dri_ring.proofs.Shown.{goes_near}
+use Rattle.dri_replay.proofs.Stacked.{goes_near}
 use mir.Val.{SFits}
 use Rattle.dri_ring.proofs.showing.carry_along.Goals as goal
 

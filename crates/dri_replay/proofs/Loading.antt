@@ -1,5 +1,5 @@
 -- A client's own state and texture, loaded into a card.
-use Rattle.std.proofs.Common.{◌≡◌, ◌≤◌, ◌<◌, ◌+◌, ℕ, ℤ, List, [], ◌∷◌, All, length, get_or, Option, Some, None, IfSome, refl, ◌∙◌, sym, ap, arith}
+use Rattle.std.proofs.Common.{◌≡◌, ◌≤◌, ◌<◌, ◌+◌, ℕ, ℤ, List, length, get_or, Option, Some, None, IfSome, refl, ◌∙◌, sym, ap, arith}
 use Rattle.dri_base.proofs.RangeLemmas.{textures_in_range}
 use Rattle.dri_base.specs.Fragments.{fragment, rules_of, textured, with_texel}
 use Rattle.dri_base.specs.Ranges.{InRange, TextureInRange, heap_bytes}
@@ -27,12 +27,9 @@ use Rattle.dri_meaning.specs.Scripts.{HasTexels}
 use Rattle.dri_model.specs.Groups.{all_groups}
 use Rattle.dri_model.specs.Heaps.{uploaded}
 use Rattle.dri_model.specs.Words.{IsBoundInRange, IsScissorInRange, card_image, emitted_words, registers_for, rules_in}
-use Rattle.dri_base.specs.declared.shape.ClipRect.{ClipRect}
-use Rattle.dri_card.specs.Drawing.{IsCarry}
-use Rattle.dri_clips.specs.Paints.{StaysOnScreen}
 use Rattle.dri_replay.specs.Makings.{state_now}
+use Rattle.dri_texel.specs.Pixels.{texel_used}
 use Rattle.dri_walk.specs.Samplings.{IsImageWithin}
-use Rattle.std.proofs.lemmas.Int.{ints}
 
 none_some : (t : Texture) → ◌≡◌ {A = Option Texture} None (Some t) → ⊥
 none_some t e = cc
@@ -60,7 +57,7 @@ module _ (s : Scene) (c : ℕ) (number : Option ℕ) (image : Option Texture) (g
       by (Some t) e = let range = named_in_range s c number t good (sym found ∙ e) in omega (arith, all, range.whole, range.fits)
 
   -- it is whole
-  image_whole : (t : Texture) → image ≡ Some t → IsWhole t
+  pub image_whole : (t : Texture) → image ≡ Some t → IsWhole t
   image_whole t e = let range = named_in_range s c number t good (sym found ∙ e) in record { wide = omega (arith, range.wide.0); high = omega (arith, range.high.0); bytes = range.whole }
 
 -- a texture with texels has sides in range
@@ -77,40 +74,45 @@ can_load s c state image bound words card good scissor found whole placed emitte
 }
 
 -- a texture whose bytes begin the memory gives the texels of its image
-texel_given : (memory : ℕ → ℕ) (mode : TexMode) (wrap : Wrap) (o : Option Texture) (t : Triangle) (x y : ℤ) (c : Rgba) → ((k : ℕ) → k < length (bytes_of o) → memory (0 + k) ≡ get_or (bytes_of o) k 0) → ((p : Texture) → o ≡ Some p → IsWhole p)
+pub texel_given : (memory : ℕ → ℕ) (mode : TexMode) (wrap : Wrap) (o : Option Texture) (t : Triangle) (x y : ℤ) (c : Rgba) → ((k : ℕ) → k < length (bytes_of o) → memory (0 + k) ≡ get_or (bytes_of o) k 0) → ((p : Texture) → o ≡ Some p → IsWhole p)
     → with_texel mode (card_image memory (bound_first o)) wrap t x y c ≡ with_texel mode (given_image o) wrap t x y c
 texel_given memory mode wrap None t x y c has whole = refl
 texel_given memory Mode_is.Off wrap (Some p) t x y c has whole = refl
 texel_given memory Mode_is.Replace wrap (Some p) t x y c has whole = ap (λ u. textured Mode_is.Replace u c) (texel_same p (λ n. memory (0 + n)) wrap _ _ (whole p refl) has)
 texel_given memory Mode_is.Modulate wrap (Some p) t x y c has whole = ap (λ u. textured Mode_is.Modulate u c) (texel_same p (λ n. memory (0 + n)) wrap _ _ (whole p refl) has)
 
--- once they are loaded, the card draws by them
-pub draws_own : (v : ReplayState) (c : ℕ) (state : State) (image : Option Texture) (bound : Option BoundTexture) (words bytes : List ℕ) (old mid new : Contents) (good : InRange v.scene) (scissor : IsScissorInRange state.scissor) (found : image ≡ texture_bound (textures_of v.scene c) state.bound) (whole : IfSome image HasTexels)
-    (placed : bound ≡ bound_first image) (emitted : words ≡ emitted_words all_groups state bound) → state ≡ state_now v c → bytes ≡ bytes_of image → memory_of mid ≡ uploaded (memory_of old) 0 bytes → (fits : length mid.memory ≡ heap_bytes v.scene) →
-    new ≡ record mid { registers = registers_after (can_load v.scene c state image bound words mid good scissor found whole placed emitted fits).spelled mid } →
-    (t : Triangle) (x y : ℤ) (under : Pixel) → drawn new t x y under ≡ fragment (rules_of (state_now v c)) (own_image (textures_of v.scene c) (state_now v c).bound) t x y under
-unfolding can_load
-draws_own v c state image bound words bytes old mid new good scissor found whole placed emitted own is memory fits registers t x y under =
-    ap (λ (r : Registers). fragment (rules_in r) (card_image (memory_of new) r.bound) t x y under) taken
-    ∙ ap (λ (b : Option BoundTexture). fragment (rules_of state) (card_image (memory_of new) b) t x y under) placed
-    ∙ fragment_same (rules_of state) (card_image (memory_of new) (bound_first image)) (given_image image) t x y under (λ k. texel_given (memory_of new) (rules_of state).tex_mode (rules_of state).wrap image t x y k has (image_whole v.scene c state.bound image good found))
-    ∙ (λ k. fragment (rules_of (own k)) (given_image ((found ∙ ap (λ (st : State). texture_bound (textures_of v.scene c) st.bound) own) k)) t x y under)
-  where
-    taken : new.registers ≡ registers_for state bound
-    taken = ap (λ (k : Contents). k.registers) registers
+-- and what is used of it
+pub used_given : (memory : ℕ → ℕ) (mode : TexMode) (wrap : Wrap) (o : Option Texture) (s t : ℕ) → ((k : ℕ) → k < length (bytes_of o) → memory (0 + k) ≡ get_or (bytes_of o) k 0) → ((p : Texture) → o ≡ Some p → IsWhole p)
+    → texel_used mode (card_image memory (bound_first o)) wrap s t ≡ texel_used mode (given_image o) wrap s t
+used_given memory mode wrap None s t has whole = refl
+used_given memory Mode_is.Off wrap (Some p) s t has whole = refl
+used_given memory Mode_is.Replace wrap (Some p) s t has whole = ap (λ u. Some u) (texel_same p (λ n. memory (0 + n)) wrap s t (whole p refl) has)
+used_given memory Mode_is.Modulate wrap (Some p) s t has whole = ap (λ u. Some u) (texel_same p (λ n. memory (0 + n)) wrap s t (whole p refl) has)
 
+-- a card has the registers of a state and the bytes of the image that it binds, which begin its memory
+pub record HasLoaded (state : State) (image : Option Texture) (card : Contents) : Type 0 where
+  pub registers : card.registers ≡ registers_for state (bound_first image)
+  pub bytes : (k : ℕ) → k < length (bytes_of image) → memory_of card (0 + k) ≡ get_or (bytes_of image) k 0
+  pub whole : (t : Texture) → image ≡ Some t → IsWhole t
+
+-- so it does once they are loaded
+pub has_loaded : (s : Scene) (c : ℕ) (state : State) (image : Option Texture) (bound : Option BoundTexture) (words bytes : List ℕ) (old mid new : Contents) (good : InRange s) (scissor : IsScissorInRange state.scissor) (found : image ≡ texture_bound (textures_of s c) state.bound) (whole : IfSome image HasTexels)
+    (placed : bound ≡ bound_first image) (emitted : words ≡ emitted_words all_groups state bound) → bytes ≡ bytes_of image → memory_of mid ≡ uploaded (memory_of old) 0 bytes → (fits : length mid.memory ≡ heap_bytes s) →
+    new ≡ record mid { registers = registers_after (can_load s c state image bound words mid good scissor found whole placed emitted fits).spelled mid } → HasLoaded state image new
+unfolding can_load
+has_loaded s c state image bound words bytes old mid new good scissor found whole placed emitted is memory fits registers = record {
+  registers = ap (λ (k : Contents). k.registers) registers ∙ ap (registers_for state) placed;
+  bytes = λ k l. ap (λ (m : ℕ → ℕ). m (0 + k)) there ∙ uploaded_at (memory_of old) 0 (bytes_of image) k l;
+  whole = image_whole s c state.bound image good found;
+}
+  where
     there : memory_of new ≡ uploaded (memory_of old) 0 (bytes_of image)
     there = ap (λ (k : Contents). memory_of k) registers ∙ (memory ∙ ap (λ (bs : List ℕ). uploaded (memory_of old) 0 bs) is)
 
-    has : (k : ℕ) → k < length (bytes_of image) → memory_of new (0 + k) ≡ get_or (bytes_of image) k 0
-    has k l = ap (λ (m : ℕ → ℕ). m (0 + k)) there ∙ uploaded_at (memory_of old) 0 (bytes_of image) k l
-
--- what stays on a screen doesn't go far
-pub goes_near : (dx dy : ℤ) (width height : ℕ) (rects : List ClipRect) → width ≤ 1024 → height ≤ 1024 → 0 < length rects → All (StaysOnScreen dx dy width height) rects → IsCarry dx × IsCarry dy
-goes_near dx dy width height [] wide high some each = absurd (omega arith)
-goes_near dx dy width height (r ∷ rects) wide high some each =
-    let at = each 0 r (omega arith) in
-    let on = at.before in (
-      (omega (arith, ints, wide, on.right, on.across, at.left), omega (arith, ints, wide, on.right, on.across, at.right)),
-      (omega (arith, ints, high, on.bottom, on.down, at.top), omega (arith, ints, high, on.bottom, on.down, at.bottom)),
-    )
+-- and then it draws by them
+pub draws_own : (v : ReplayState) (c : ℕ) (state : State) (image : Option Texture) (card : Contents) → image ≡ texture_bound (textures_of v.scene c) state.bound → state ≡ state_now v c → HasLoaded state image card →
+    (t : Triangle) (x y : ℤ) (under : Pixel) → drawn card t x y under ≡ fragment (rules_of (state_now v c)) (own_image (textures_of v.scene c) (state_now v c).bound) t x y under
+draws_own v c state image card found own has t x y under =
+    ap (λ (r : Registers). fragment (rules_in r) (card_image (memory_of card) r.bound) t x y under) has.registers
+    ∙ fragment_same (rules_of state) (card_image (memory_of card) (bound_first image)) (given_image image) t x y under (λ k. texel_given (memory_of card) (rules_of state).tex_mode (rules_of state).wrap image t x y k has.bytes has.whole)
+    ∙ (λ k. fragment (rules_of (own k)) (given_image ((found ∙ ap (λ (st : State). texture_bound (textures_of v.scene c) st.bound) own) k)) t x y under)
