@@ -6,9 +6,9 @@ use Rattle.dri_threads.proofs.Rounds.{all_below}
 use Rattle.dri_threads.proofs.run.run_actors.Goals as goal
 
 pub run_beside-requires-clause-new : goal.run_beside-requires-clause-new
-run_beside-requires-clause-new g c =
+run_beside-requires-clause-new g c κs b =
     let fresh : AreNew (id_of c.args.hw.now) c.deref.result.now 1 (passes_in c.args.passes) = subst (λ (s : Scene). AreNew (id_of c.args.hw.now) s 1 (passes_in c.args.passes)) (sym c.deref.ensures) c.requires.passes in
-    search rules
+    rw (c.new-stage.ensures.hw, c.new-stage.ensures.scene) fresh
 
 pub run_beside-requires-clause-clients : goal.run_beside-requires-clause-clients
 run_beside-requires-clause-clients g c =
