@@ -14,3 +14,8 @@ pub mod LineDots
 pub mod LinePlaces
 pub mod LineColumns
 pub mod LineNumbers
+-- A card that follows a replay
+pub mod InClips
+pub mod Making
+pub mod Made16
+pub mod Followed16

@@ -35,7 +35,7 @@ carried_kept : (rule : PixelRule) (from : Option (ℕ × ℕ)) (plane : ℕ → 
 carried_kept rule None plane x y each = each x y
 carried_kept rule (Some p) plane x y each = each p.0 p.1
 
-back_kept : (rule : PixelRule) (s : Scene) (w : World) (e : Entry) (x y : ℕ) → KeepsForGood rule → PlanesAreKept rule w → rule.kept (back_with rule s w e x y).colour ≡ (back_with rule s w e x y).colour
+pub back_kept : (rule : PixelRule) (s : Scene) (w : World) (e : Entry) (x y : ℕ) → KeepsForGood rule → PlanesAreKept rule w → rule.kept (back_with rule s w e x y).colour ≡ (back_with rule s w e x y).colour
 back_kept rule s w (Run c i) x y keeps are = by_clip (clips_in s w c x y)
   where
     drawn : Pixel

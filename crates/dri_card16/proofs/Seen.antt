@@ -6,7 +6,7 @@ use Rattle.std.proofs.Math.ListN.{get_or-map}
 use Rattle.std.proofs.lemmas.List.{length-map}
 use Rattle.std.proofs.lemmas.Nat.{div-add-mod', div-mul-add, mod-mul-add, mul-add-lt}
 use Rattle.dri_base.specs.declared.colour.Rgb.{Rgb}
-use Rattle.dri_base.specs.Planes.{first_pixels, plane}
+use Rattle.dri_base.specs.Planes.{plane}
 use Rattle.dri_base.specs.Texels.{sixteen_bits}
 use Rattle.dri_base.proofs.PlaneLists.{length-first_pixels, pixel_at, pixels_by_all, plane_same}
 use Rattle.dri_plane.specs.Grids.{Grid, Becomes}

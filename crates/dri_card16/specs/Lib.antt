@@ -14,3 +14,6 @@ pub mod Calls
 pub mod Invariants
 -- Scenes that were worked by hand
 pub mod Examples
+-- A replay
+pub mod Following
+pub mod Replays

@@ -10,7 +10,7 @@ use Rattle.dri_base.specs.declared.scene.Scene.{Scene}
 use Rattle.dri_base.specs.declared.shape.Triangle.{Triangle}
 use Rattle.dri_card16.specs.Lines.{is_line, line_fragment}
 use Rattle.dri_card16.specs.Packing.{kept}
-use Rattle.dri_card16.specs.PixelRules.{PixelRule, kept_pair, solo_frame_with, solo_with}
+use Rattle.dri_card16.specs.PixelRules.{PixelRule, kept_pair, solo_frame_with}
 use Rattle.dri_card16.specs.RuleRuns.{ShowsWith, after_with}
 use Rattle.dri_core.specs.Worlds.{World}
 use Rattle.dri_walk.specs.Drawings.{fragment_kept}
@@ -23,11 +23,7 @@ fragment16 r image t x y under = if is_line t then line_fragment (kept_pair kept
 abbrev pub rule16 : PixelRule
 rule16 = record { kept = kept; triangle = fragment16 }
 
--- the pair after the clear at place first, whose colour is packed, and the n commands behind it
-abbrev pub solo16 : ClientScript → ℕ → ℕ → ℤ → ℤ → Pixel
-solo16 p first n x y = solo_with rule16 p first n x y
-
--- frame k drawn alone: the colour at the window's pixel (x, y)
+-- frame k drawn alone, beginning with its clear, whose colour is packed: the colour at the window's pixel (x, y)
 abbrev pub solo_frame16 : ClientScript → ℕ → ℤ → ℤ → Option Rgb
 solo_frame16 p k x y = solo_frame_with rule16 p k x y
 
