@@ -94,6 +94,11 @@ void dri_flip(const uint8_t *recording, size_t recording_length, uint8_t *pictur
 void dri_ring(uint32_t room, const uint8_t *recording, size_t recording_length, uint8_t *picture, size_t picture_length,
               uint8_t *notes, size_t notes_length, struct dri_answer *answer);
 
+/* Reads what dri_check reads, and refuses what it refuses. Draws the journal by a card that keeps colours in sixteen bits and draws
+ * lines; gives the screen after it in the P6 form, and no notes. */
+void dri_card16(const uint8_t *recording, size_t recording_length, uint8_t *picture, size_t picture_length, uint8_t *notes,
+                size_t notes_length, struct dri_answer *answer);
+
 /* Reads a scene and behind it groups of its clients. Plays the scene without its schedule in rounds of the groups; gives the screen
  * in the P6 form, and the journal. It refuses a text that isn't both, its lines counted over both. */
 void dri_many(const uint8_t *grouped, size_t grouped_length, uint8_t *picture, size_t picture_length, uint8_t *notes,

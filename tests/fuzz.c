@@ -261,6 +261,7 @@ static void call(const char *name, struct bytes text, struct bytes picture, stru
     else if (!strcmp(name, "sarea")) dri_sarea(text.at, text.length, BUFFERS);
     else if (!strcmp(name, "check")) dri_check(text.at, text.length, BUFFERS);
     else if (!strcmp(name, "flip")) dri_flip(text.at, text.length, BUFFERS);
+    else if (!strcmp(name, "card16")) dri_card16(text.at, text.length, BUFFERS);
     else if (!strcmp(name, "ring")) dri_ring(some_number(70), text.at, text.length, BUFFERS);
     else if (!strcmp(name, "many")) dri_many(text.at, text.length, BUFFERS);
     else if (!strcmp(name, "solo")) dri_solo(some_number(4), some_number(4), text.at, text.length, BUFFERS);

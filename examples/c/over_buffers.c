@@ -53,6 +53,8 @@ static int call(int count, char **words, struct bytes text, struct bytes picture
         dri_check(text.at, text.length, BUFFERS);
     else if (count == 1 && !strcmp(words[0], "flip"))
         dri_flip(text.at, text.length, BUFFERS);
+    else if (count == 1 && !strcmp(words[0], "card16"))
+        dri_card16(text.at, text.length, BUFFERS);
     else if (count == 1 && !strcmp(words[0], "many"))
         dri_many(text.at, text.length, BUFFERS);
     else if (count == 2 && !strcmp(words[0], "ring"))

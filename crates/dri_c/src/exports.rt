@@ -82,6 +82,21 @@ pub extern "C" fn dri_ring(
     obey(alloc, "ring", &[room], recording, picture, notes, answer);
 }
 
+/// Draws the journal behind a scene's text by a card that keeps colours in sixteen bits and draws lines, as the word `card16` does: the
+/// screen after it in the P6 form, and no notes.
+#[unsafe(no_mangle)]
+pub extern "C" fn dri_card16(
+    alloc: Global,
+    recording: &[u8],
+    picture: &mut [u8],
+    notes: &mut [u8],
+    answer: &mut Answer,
+)
+    ensures { Gives (codes "card16" ∷ []) recording.now picture.old picture.new notes.old notes.new answer.new }
+{
+    obey(alloc, "card16", &[], recording, picture, notes, answer);
+}
+
 /// Plays a scene's text in rounds of the groups behind it, as the word `many` does: the screen in the P6 form, and the journal.
 #[unsafe(no_mangle)]
 pub extern "C" fn dri_many(

@@ -12,6 +12,7 @@ mod Replaying
 pub mod Showing
 mod Flipping
 mod Ringing
+mod SixteenShown
 -- The word many
 mod Groups
 -- The word make

@@ -8,7 +8,7 @@ use Rattle.dri_run.specs.Readings.{HasNone, IsDecided, IsRefusalOf, IsTextOf, mo
 use Rattle.dri_run.specs.Recordings.{recordings}
 use Rattle.dri_run.specs.Replays.{GivesReplay, IsReplayAnswer, IsRunOfBytes, RunsReplay, SaysReplay}
 use Rattle.dri_run.specs.declared.form.Replaying.{Replaying}
-use Rattle.dri_run.specs.declared.form.Replaying.TheVariants.{Check, Flip, Ring}
+use Rattle.dri_run.specs.declared.form.Replaying.TheVariants.{Check, Flip, Ring, Sixteen}
 use Rattle.dri_run.specs.declared.recording.Recording.{Recording}
 use Rattle.dri_run.specs.declared.status.Status.{Status}
 use Rattle.dri_run.specs.declared.status.Status.TheVariants as answers
@@ -58,6 +58,7 @@ given_run : (word : Replaying) (recording : Recording) (image text : List ℕ) �
 given_run Check recording image text gives = gives.is.run
 given_run Flip recording image text gives = gives.run
 given_run (Ring room) recording image text gives = gives.run
+given_run Sixteen recording image text gives = gives.run
 
 -- a recording that was replayed is a hold-run
 hold_run : (word : Replaying) (recording : Recording) (bytes image text : List ℕ) → InRange recording.scene → IsDecided recordings (Ok recording) bytes → GivesReplay word recording image text → (length bytes ≤ most_behind) × IsRunOfBytes bytes

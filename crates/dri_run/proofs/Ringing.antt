@@ -2,6 +2,7 @@
 use Rattle.std.proofs.Common.{◌≡◌, ℕ, List, ap, ◌∙◌, subst}
 use Rattle.dri_base.specs.declared.journal.Entry.{Entry}
 use Rattle.dri_base.specs.declared.scene.Scene.{Scene}
+use Rattle.dri_core.specs.Runs.{after}
 use Rattle.dri_ring.specs.Counts.{Counts, ring_counts}
 use Rattle.dri_ring.specs.Replays.{IsRinged}
 use Rattle.dri_ring.specs.declared.ringed.Ringed.{Ringed}
@@ -14,7 +15,7 @@ use Rattle.dri_run.specs.declared.recording.Recording.{Recording}
 same_ringed : (room : ℕ) (r : Recording) (lent : Scene) (entries : List Entry) (ringed : Ringed) → lent ≡ r.scene → entries ≡ r.journal → IsRinged lent entries room ringed → IsRinged r.scene r.journal room ringed
 same_ringed room r lent entries ringed lends same is = subst (λ (es : List Entry). IsRinged r.scene es room ringed) same (subst (λ (s : Scene). IsRinged s entries room ringed) lends is)
 
-pub ring_shows : (room : ℕ) (r : Recording) (lent : Scene) (entries : List Entry) (ringed : Ringed) → lent ≡ r.scene → entries ≡ r.journal → IsRinged lent entries room ringed → Shows r ringed.picture
+pub ring_shows : (room : ℕ) (r : Recording) (lent : Scene) (entries : List Entry) (ringed : Ringed) → lent ≡ r.scene → entries ≡ r.journal → IsRinged lent entries room ringed → Shows r.scene (after r.scene r.journal).front ringed.picture
 ring_shows room r lent entries ringed lends same is =
     let shows = same_ringed room r lent entries ringed lends same is in
     record { width = shows.width; height = shows.height; pixels = shows.pixels }
@@ -30,6 +31,6 @@ ring_gives room r lent entries ringed image text line lends same is picture writ
     let shows = same_ringed room r lent entries ringed lends same is in
     record {
       run = shows.run;
-      picture = screen r ringed.picture image (ring_shows room r lent entries ringed lends same is) picture;
+      picture = screen r.scene (after r.scene r.journal).front ringed.picture image (ring_shows room r lent entries ringed lends same is) picture;
       notes = written ∙ spelled ∙ ring_counted ringed.puts ringed.idles ringed.most (ring_counts r.scene room r.journal) shows.puts shows.idles shows.most;
     }

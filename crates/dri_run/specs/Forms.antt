@@ -12,7 +12,7 @@ use Rattle.dri_words.specs.Words.{◌>>=◌, alone, number_at}
 use Rattle.dri_run.specs.declared.form.Form.{Form}
 use Rattle.dri_run.specs.declared.form.Form.TheVariants.{Scheduled, Grouped, Replayed, Solo, Make}
 use Rattle.dri_run.specs.declared.form.Replaying.{Replaying}
-use Rattle.dri_run.specs.declared.form.Replaying.TheVariants.{Check, Flip, Ring}
+use Rattle.dri_run.specs.declared.form.Replaying.TheVariants.{Check, Flip, Ring, Sixteen}
 use Rattle.dri_run.specs.declared.form.Shown.TheVariants.{Turns, Sarea}
 
 -- a ring has room for 1 to 64 jobs
@@ -40,6 +40,7 @@ form_of_word word =
     else if bytes_eq word (codes "sarea") then Some (Scheduled Sarea)
     else if bytes_eq word (codes "check") then Some (Replayed Check)
     else if bytes_eq word (codes "flip") then Some (Replayed Flip)
+    else if bytes_eq word (codes "card16") then Some (Replayed Sixteen)
     else if bytes_eq word (codes "many") then Some Grouped
     else None
 

@@ -7,6 +7,7 @@ pub mod Recordings
 pub mod CheckedRun
 pub mod FlippedRun
 pub mod RingedRun
+pub mod SixteenRun
 pub mod Replays
 pub mod ScheduledRun
 pub mod ThreadedRun

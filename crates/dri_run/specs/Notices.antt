@@ -32,7 +32,7 @@ reason_word reasons.Frame = codes "frame"
 -- the line that is written to the notes
 abbrev pub line_of : Status → List ℕ
 line_of answers.Done = []
-line_of answers.Usage = codes "dri: usage: turns | run | solo C K | check | make N | sarea | flip | ring N | many\n"
+line_of answers.Usage = codes "dri: usage: turns | run | solo C K | check | make N | sarea | flip | ring N | many | card16\n"
 line_of (answers.Refused line reason) = codes "dri: line " ++ (decimal line ++ (codes ": " ++ (reason_word reason ++ codes "\n")))
 line_of answers.TooLong = codes "dri: too long\n"
 line_of answers.ReadFault = codes "dri: read failed\n"

@@ -13,8 +13,9 @@ use Rattle.dri_run.specs.Outcome.{Runs, SaysOf}
 use Rattle.dri_run.specs.Readings.{HasNone, IsReadWithin, IsRefusalOf, IsTextOf, most_behind}
 use Rattle.dri_run.specs.Recordings.{recording_of, recordings}
 use Rattle.dri_run.specs.RingedRun.{GivesRinged}
+use Rattle.dri_run.specs.SixteenRun.{GivesSixteen}
 use Rattle.dri_run.specs.declared.form.Replaying.{Replaying}
-use Rattle.dri_run.specs.declared.form.Replaying.TheVariants.{Check, Flip, Ring}
+use Rattle.dri_run.specs.declared.form.Replaying.TheVariants.{Check, Flip, Ring, Sixteen}
 use Rattle.dri_run.specs.declared.recording.Recording.{Recording}
 use Rattle.dri_run.specs.declared.status.Status.{Status}
 use Rattle.dri_run.specs.declared.status.Status.TheVariants as answers
@@ -30,6 +31,7 @@ abbrev pub GivesReplay : Replaying → Recording → List ℕ → List ℕ → T
 GivesReplay Check recording image text = GivesReport recording image text
 GivesReplay Flip recording image text = GivesFlipped recording image text
 GivesReplay (Ring room) recording image text = GivesRinged room recording image text
+GivesReplay Sixteen recording image text = GivesSixteen recording image text
 
 -- what is written of a recording; or its first entry that isn't legal
 abbrev pub IsReplay : Replaying → Result Output Status → Recording → Type 0

@@ -33,6 +33,8 @@ pub enum Replaying {
     Flip,
     /// `ring N`: the journal is drawn through a ring with room for so many jobs, 1 to 64.
     Ring { room: u32 },
+    /// `card16`: the journal is drawn by a card that keeps colours in sixteen bits and draws lines.
+    Sixteen,
 }
 
 /// What the words ask for.
@@ -73,6 +75,8 @@ fn form_of_word(word: &str) -> Option<Form>
         Some(Form::Replayed(Replaying::Check))
     } else if word == "flip" {
         Some(Form::Replayed(Replaying::Flip))
+    } else if word == "card16" {
+        Some(Form::Replayed(Replaying::Sixteen))
     } else if word == "many" {
         Some(Form::Grouped)
     } else {

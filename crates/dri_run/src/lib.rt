@@ -18,6 +18,7 @@ mod recording;
 mod replayed;
 mod report;
 mod ringed;
+mod sixteen;
 mod status;
 mod threaded;
 mod top;

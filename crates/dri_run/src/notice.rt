@@ -82,7 +82,7 @@ pub fn line_of(status: Status) -> Notice
     match status {
         Status::Done => fixed(""),
         Status::Usage => fixed(
-            "dri: usage: turns | run | solo C K | check | make N | sarea | flip | ring N | many\n",
+            "dri: usage: turns | run | solo C K | check | make N | sarea | flip | ring N | many | card16\n",
         ),
         Status::Refused { line, reason } => refusal(line, reason),
         Status::TooLong => fixed("dri: too long\n"),

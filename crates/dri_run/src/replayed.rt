@@ -18,6 +18,7 @@ use crate::form::Replaying;
 use crate::reading::read;
 use crate::recording::Recording;
 use crate::ringed::ringed;
+use crate::sixteen::sixteen;
 use crate::writing::{Output, write_output};
 use dri_io::{Sink, Source};
 use std::alloc::Global;
@@ -33,6 +34,7 @@ fn output_of(alloc: Global, word: Replaying, recording: Recording) -> Result<Out
         Replaying::Check => report_of(alloc, &recording),
         Replaying::Flip => flipped(alloc, &recording),
         Replaying::Ring { room } => ringed(alloc, room, recording),
+        Replaying::Sixteen => sixteen(alloc, &recording),
     }
 }
 

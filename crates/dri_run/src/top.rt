@@ -70,7 +70,8 @@ fn answer<S: Source, P: Sink, N: Sink>(
 /// `picture` in place of the screen, and no journal. `check` reads a scene and behind it a journal, asks whether the
 /// journal is a run of the scene, and writes the line of its report to `picture`, and nothing to `notes`. `flip` reads the
 /// same, draws the journal by a card that flips, and writes the screen after it to `picture` and the counts of flips and copies
-/// to `notes`. `ring N` does so through a ring with room for N jobs, and writes what the ring counts. `many` reads a scene and
+/// to `notes`. `ring N` does so through a ring with room for N jobs, and writes what the ring counts. `card16` draws it by a card
+/// that keeps colours in sixteen bits and draws lines, and writes nothing to `notes`. `many` reads a scene and
 /// behind it groups of its clients, plays the scene in rounds of these, without its schedule, and writes the screen and the
 /// journal. `solo C K` reads a scene and writes frame K of client C, drawn alone with the sides that the client's window has
 /// in the scene, to `picture`, and nothing to `notes`. `make N` reads nothing; it writes the text of a scene of N clients to
@@ -91,9 +92,9 @@ pub fn drive<S: Source, P: Sink, N: Sink>(
     // scene; with the run of its schedule and rounds, the picture gained what the screen or the shared area shows after
     // it, and the notes its journal; and of that run the headline holds. For `many` they are the text of a scene and then of
     // groups of its clients, and the run is that of the scene without its schedule in rounds of the groups. For `check`,
-    // `flip` and `ring` they are the text of a scene and then of a hold-run of it. For `check` the picture gained the line of
-    // the run's report; for `flip` and `ring` it gained what the screen shows after the run, and the notes the run's flips and
-    // copies, or what a ring counts of it. For `solo` the bytes are the text of a scene that has the frame, and the picture
+    // `flip`, `ring` and `card16` they are the text of a scene and then of a hold-run of it. For `check` the picture gained the
+    // line of the run's report; for `flip` and `ring` it gained what the screen shows after the run, and the notes the run's flips
+    // and copies, or what a ring counts of it; for `card16` it gained what a screen of sixteen bits shows after the run. For `solo` the bytes are the text of a scene that has the frame, and the picture
     // gained the frame as it is drawn alone. For `make` the picture gained the generator's scene, and the notes how many
     // frames ran in its run and how many of them stood.
     ensures answers { (given : List ℕ) × Consumes (S.left input.old) (S.left input.new) given

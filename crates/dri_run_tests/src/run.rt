@@ -72,15 +72,17 @@ const ALONE: &[&str] = &["solo", "1", "1"];
 
 const FLIPPED: &[&str] = &["flip"];
 
+const SIXTEEN: &[&str] = &["card16"];
+
 const UNREAD: &str = "dri: read failed\n";
 
 const UNWRITTEN: &str = "dri: write failed\n";
 
 const USAGE: &str =
-    "dri: usage: turns | run | solo C K | check | make N | sarea | flip | ring N | many\n";
+    "dri: usage: turns | run | solo C K | check | make N | sarea | flip | ring N | many | card16\n";
 
 /// Nothing is read for words of no form, so a source that fails isn't noticed.
-const CASES: [Case; 19] = [
+const CASES: [Case; 21] = [
     Case(PLAYED, &[ROOT], [1, 0, 0], 4, b"", UNREAD),
     Case(PLAYED, &[ROOT], [0, 2, 0], 5, b"P6\n1 1\n", UNWRITTEN),
     Case(
@@ -155,6 +157,22 @@ const CASES: [Case; 19] = [
         0,
         BLUE_PIXELS,
         "puts 4 idles 0 most 3\n",
+    ),
+    Case(
+        SIXTEEN,
+        &[ROOT, "journal 1\ndone\n"],
+        [0, 0, 1],
+        0,
+        b"P6\n1 1\n255\n\x00\x00\x42",
+        "",
+    ),
+    Case(
+        SIXTEEN,
+        &[FRAMES, "done\n", FRAMES_JOURNAL],
+        [0, 2, 0],
+        5,
+        b"P6\n2 1\n",
+        UNWRITTEN,
     ),
     Case(
         &["many"],
