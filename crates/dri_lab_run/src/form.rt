@@ -1,0 +1,61 @@
+//! The words of the command line.
+
+ghost use Rattle.std.specs.Prelude.{◌≡◌};
+ghost use Rattle.dri_lab_run.specs.Forms.{after_form, form_of, pixel_form};
+
+use dri_run::number_in;
+
+/// The most entries that a word can ask for.
+const MOST_ENTRIES: u32 = u32::MAX;
+
+/// The greatest column and row of a screen.
+const LAST_PLACE: u32 = 1_023;
+
+/// What is looked at in a recording: a scene and a journal.
+#[derive(Clone, Copy)]
+pub enum Look {
+    /// `after E`: the screen after the journal's first E entries.
+    After { entries: u32 },
+    /// `pixel X Y`: what touched the place of this column and this row, each 0 to 1,023.
+    Pixel { x: u32, y: u32 },
+}
+
+/// What the word `after` and a number behind it ask for.
+fn after_form(count: &str) -> Option<Look>
+    ensures { result ≡ after_form count.now }
+{
+    let entries = number_in(0, MOST_ENTRIES, count)?;
+    Some(Look::After { entries })
+}
+
+/// What the word `pixel` and two numbers behind it ask for.
+fn pixel_form(column: &str, row: &str) -> Option<Look>
+    ensures { result ≡ pixel_form column.now row.now }
+{
+    let x = number_in(0, LAST_PLACE, column)?;
+    let y = number_in(0, LAST_PLACE, row)?;
+    Some(Look::Pixel { x, y })
+}
+
+/// What the words ask for, where they are of a form.
+pub fn form_of(words: &[String]) -> Option<Look>
+    ensures { result ≡ form_of words.now }
+{
+    match words {
+        [word, count] => {
+            if word.as_str() == "after" {
+                after_form(count.as_str())
+            } else {
+                None
+            }
+        }
+        [word, column, row] => {
+            if word.as_str() == "pixel" {
+                pixel_form(column.as_str(), row.as_str())
+            } else {
+                None
+            }
+        }
+        _ => None,
+    }
+}
