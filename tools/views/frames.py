@@ -7,7 +7,7 @@ from typing import Iterator
 
 from .course import Course, Frame
 from .pictures import Picture, Pixel, picture_of
-from .program import Failed, Program
+from .program import Failed, Laboratory, Program
 from .svg import BAD, GOOD, INK, PALE, Svg, width_of
 from .timeline import colour_of, name_of
 
@@ -50,10 +50,18 @@ def said_of(course: Course, frame: Frame, own: int, differing: int) -> list[str]
     return [f"stood: all {own} pixels equal" if own else "stood: it had no pixel"]
 
 
-def pair_of(program: Program, course: Course, frame: Frame) -> Pair:
-    """Asks the program for a frame's two pictures, and compares them."""
-    alone = program.alone(course.scene, frame.client, frame.number, frame.window)
-    screen = program.screen_after(course.scene, course.entries, frame.swap)
+@dataclass(frozen=True)
+class Asked:
+    """The programs that draw: the one a frame alone, the other the screen after an entry."""
+
+    program: Program
+    laboratory: Laboratory
+
+
+def pair_of(asked: Asked, course: Course, frame: Frame) -> Pair:
+    """Asks for a frame's two pictures, and compares them."""
+    alone = asked.program.alone(course.scene, frame.client, frame.number, frame.window)
+    screen = asked.laboratory.screen_after(course.scene, course.entries, frame.swap)
     window, own, differing = frame.window, 0, 0
     shown = [[hatched(x, y) for x in range(window.width)] for y in range(window.height)]
     for y, row in enumerate(shown):
@@ -135,7 +143,7 @@ class Sheet:
             svg.text(x, top + 22 + pair.shown.height * self.times + 16 + 13 * at, line, SAID_SIZE, colour)
 
 
-def row_of(program: Program, course: Course, client: int, most: int) -> Row:
+def row_of(asked: Asked, course: Course, client: int, most: int) -> Row:
     """Returns the first so many of a client's frames that begin with a clear."""
     swapped = [it for it in course.frames if it.client == client]
     frames = [it for it in swapped if it.clear]
@@ -146,9 +154,9 @@ def row_of(program: Program, course: Course, client: int, most: int) -> Row:
     death = next((number for number, it in enumerate(course.entries, 1) if it.kind == "gone" and it.client == client), None)
     begun = f"frame {course.drawings[client].number} had begun: " if course.drawings[client].clear else ""
     end = f"{begun}the client died, entry {death}" if death else "" if frames else "no frame that begins with a clear"
-    return Row(client, notes, [pair_of(program, course, it) for it in frames[:most]], end)
+    return Row(client, notes, [pair_of(asked, course, it) for it in frames[:most]], end)
 
 
-def draw_frames(program: Program, course: Course, most: int) -> str:
+def draw_frames(asked: Asked, course: Course, most: int) -> str:
     """Returns the frames of a run as SVG, of each client those that begin with a clear, and the first so many of them."""
-    return Sheet([row_of(program, course, client, most) for client in course.scene.clients]).draw()
+    return Sheet([row_of(asked, course, client, most) for client in course.scene.clients]).draw()

@@ -1,4 +1,4 @@
-"""The program: its verdicts on journals, and its pictures."""
+"""The programs: their verdicts on journals, their pictures, and what happens turn by turn."""
 
 from __future__ import annotations
 
@@ -8,8 +8,8 @@ import subprocess
 from dataclasses import dataclass, replace
 from typing import Optional
 
-from .course import TAKES, Phase, Standing
-from .journal import SERVER, Entry, read_journal
+from .course import Phase, Standing
+from .journal import SERVER, Entry, journal_text, read_journal
 from .pictures import Picture, read_ppm
 from .scene import Client, Command, Item, Scene, Window
 
@@ -106,23 +106,18 @@ class Program:
         ended = self.done(["turns"], replace(scene, schedule=[*scene.schedule, Item(client)]).text())
         return read_journal(ended.notes)[len(entries)]
 
-    def screen_after(self, scene: Scene, entries: list[Entry], count: int) -> Picture:
-        """Returns what the screen shows after so many entries of a run: of a scene that goes no further."""
-        ended = self.done(["turns"], stopped(scene, entries[:count]).text())
-        played = read_journal(ended.notes)[:count]
-        if [deed(it) for it in played] != [deed(it) for it in entries[:count]]:
-            raise Failed(f"the first {count} entries can't be played again as they stand in the journal")
-        return read_ppm(ended.picture)
-
     def alone(self, scene: Scene, client: int, frame: int, window: Window) -> Picture:
         """Returns a client's frame drawn alone, with the sides of its window as it is given."""
         windows = [window if it.number == window.number else it for it in scene.windows]
         return read_ppm(self.done(["solo", str(client), str(frame)], replace(scene, windows=windows).text()).picture)
 
 
-def deed(entry: Entry) -> tuple[str, tuple[int, ...]]:
-    """What an entry does, but for how a client took the lock: that tells if others waited, and they don't where it is played."""
-    return ("take", entry.numbers[:1]) if entry.kind in TAKES else (entry.kind, entry.numbers)
+class Laboratory(Program):
+    """The built laboratory at a path."""
+
+    def screen_after(self, scene: Scene, entries: list[Entry], count: int) -> Picture:
+        """Returns what the screen shows after so many entries of a run."""
+        return read_ppm(self.done(["after", str(count)], scene.text() + journal_text(entries)).picture)
 
 
 def stopped(scene: Scene, entries: list[Entry]) -> Scene:
@@ -164,11 +159,19 @@ def commands_of(client: Client, standing: Standing) -> list[Command]:
     return client.commands[:ran] + ([YIELD] if shows else following)
 
 
-def find_program(path: Optional[str]) -> Program:
-    """Returns the program at a path, or else the proved one that ./dri starts, which is built first where it isn't there."""
-    if path:
-        return Program(path)
-    found = subprocess.run([f"{TOP}/tools/program"], stdout=subprocess.PIPE, text=True, check=False)
+def proved(option: str, *words: str) -> str:
+    """Returns the path of a proved program, which is built first where it isn't there. The option is how else to give one."""
+    found = subprocess.run([f"{TOP}/tools/program", *words], stdout=subprocess.PIPE, text=True, check=False)
     if found.returncode:
-        raise Failed("there is no proved program, and none could be built (give one by --program)")
-    return Program(found.stdout.rstrip("\n"))
+        raise Failed(f"there is no proved program, and none could be built (give one by {option})")
+    return found.stdout.rstrip("\n")
+
+
+def find_program(path: Optional[str]) -> Program:
+    """Returns the program at a path, or else the proved one that ./dri starts."""
+    return Program(path or proved("--program"))
+
+
+def find_laboratory(path: Optional[str]) -> Laboratory:
+    """Returns the laboratory at a path, or else the proved one that ./dri_lab starts."""
+    return Laboratory(path or proved("--laboratory", "lab"))

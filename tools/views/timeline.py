@@ -1,15 +1,16 @@
-"""The lock's timeline: a lane for each actor, a bar for each hold, a sign for each entry, a line for each frame."""
+"""The lock's timeline: a lane for each actor, a bar for each hold, a sign for each entry, a line for each frame, and who waits."""
 
 from __future__ import annotations
 
 import math
 from dataclasses import dataclass, replace
-from typing import Callable, Iterator, Optional
+from typing import Callable, Iterable, Iterator, Optional
 
 from .course import Course, Frame
 from .journal import SERVER, Entry, groups_in
 from .scene import Command
 from .svg import BAD, GOOD, INK, PALE, SHADE, Svg, width_of
+from .waiting import Wait
 
 SERVER_COLOUR = "#5b6470"
 COLOURS = ("#2f6fb7", "#c7611a", "#2c8a57", "#8a4fb0", "#b0304f", "#7a6a1c", "#138a8f", "#555f9c")
@@ -69,10 +70,10 @@ def colour_of_frame(frame: Frame) -> str:
 
 
 class Timeline:
-    """Draws one course."""
+    """Draws one course, and who waited in it, where that is known."""
 
-    def __init__(self, course: Course):
-        self.course = course
+    def __init__(self, course: Course, waits: list[Wait]):
+        self.course, self.waits = course, waits
         self.layout = layout_for(max(1, len(course.entries)))
         self.strips = list(self.cut())
         below = self.strips[-1]
@@ -95,7 +96,12 @@ class Timeline:
         named = {it.client for it in self.course.entries[first - 1 : last] if it.client}
         framed = {it.client for it in self.course.frames if (it.clear or it.swap) <= last and it.swap >= first}
         stamped = {number for at in range(first, last + 1) for number in self.course.stamps.get(at, ())}
-        return named | framed | {it.number for it in self.course.scene.clients.values() if it.window in stamped}
+        waiting = {it.actor for it in self.waits if it.joined <= last and self.went(it) >= first}
+        return named | framed | waiting | {it.number for it in self.course.scene.clients.values() if it.window in stamped}
+
+    def went(self, wait: Wait) -> int:
+        """Returns the entry up to which an actor waits: the one behind the last, where it never went."""
+        return wait.went or len(self.course.entries) + 1
 
     def x(self, strip: Strip, number: int) -> float:
         """Returns the middle of an entry's cell."""
@@ -111,6 +117,9 @@ class Timeline:
             self.draw_lanes(strip)
             self.draw_frames(strip)
             self.draw_stamps(strip)
+            for wait in self.waits:
+                if wait.actor in strip.actors:
+                    self.draw_wait(strip, wait)
             for hold in self.course.holds:
                 if hold.first <= strip.last and hold.last >= strip.first and hold.actor in strip.actors:
                     self.draw_hold(strip, hold.actor, max(hold.first, strip.first), min(hold.last, strip.last))
@@ -125,7 +134,7 @@ class Timeline:
         said += f"{sum(it.stood for it in begun)} of them stood"
         self.svg.text(16, 24, "Who held the lock", 16, font_weight="bold")
         self.svg.text(190, 24, said, 12, PALE)
-        Legend(self.svg, 16, 46).draw(self.layout)
+        Legend(self.svg, 16, 46).draw(self.layout, bool(self.waits))
 
     def draw_lanes(self, strip: Strip) -> None:
         svg, layout = self.svg, self.layout
@@ -142,6 +151,24 @@ class Timeline:
             if is_tenth or layout.has_signs:
                 size, weight = (8.5, "bold") if is_tenth else (7, "normal")
                 svg.text(self.x(strip, number), below + 5, number, size, PALE, "middle", font_weight=weight)
+
+    def draw_wait(self, strip: Strip, wait: Wait) -> None:
+        """A thin bar, from behind the last entry before the actor joined the queue to the entry by which it went, with a stroke where
+        it marked the word."""
+        step, level = self.layout.step, self.y(strip, wait.actor) + 5 + self.layout.bar / 2
+        left = LEFT + max(wait.joined - strip.first + 1, 0) * step
+        right = LEFT + min(self.went(wait) - strip.first, strip.last - strip.first + 1) * step
+        if right <= left:
+            return
+        colour = colour_of(wait.actor)
+        until = f"up to entry {wait.went}" if wait.went else "and never went"
+        marked = "" if wait.marked is None else f"; marked the word after entry {wait.marked}"
+        self.svg.begin(f"{name_of(wait.actor)} waited from behind entry {wait.joined} {until}{marked}")
+        self.svg.rect(left, level - 2, right - left, 4, colour, opacity=0.45)
+        if wait.marked is not None and strip.first - 1 <= wait.marked <= strip.last:
+            x = LEFT + (wait.marked - strip.first + 1) * step
+            self.svg.line(x, level - 6, x, level + 6, colour, stroke_width=2)
+        self.svg.end()
 
     def draw_hold(self, strip: Strip, actor: int, first: int, last: int) -> None:
         step, top = self.layout.step, self.y(strip, actor) + 5
@@ -308,7 +335,7 @@ class Legend:
         self.x += 22
         self.say(text)
 
-    def draw(self, layout: Layout) -> None:
+    def draw(self, layout: Layout, has_waits: bool) -> None:
         if layout.has_signs:
             self.draw_signs()
             self.svg.circle(self.x + 8, self.y, 7.5, WHITE, stroke=BAD, stroke_width=1.2)
@@ -324,6 +351,11 @@ class Legend:
         self.stroke("frame that stood", GOOD)
         self.stroke("frame that didn't, with what took its stamp", BAD, True)
         self.stroke("frame without a clear", PALE)
+        if has_waits:
+            self.svg.rect(self.x, self.y - 2, 18, 4, COLOURS[0], opacity=0.45)
+            self.svg.line(self.x + 9, self.y - 6, self.x + 9, self.y + 6, COLOURS[0], stroke_width=2)
+            self.x += 22
+            self.say("in the queue, with the mark")
 
     def draw_signs(self) -> None:
         signs = (
@@ -347,6 +379,6 @@ class Legend:
             self.chip(text, lambda x: draw_sign(self.svg, entry, None, x, self.y), SERVER_COLOUR)
 
 
-def draw_timeline(course: Course) -> str:
+def draw_timeline(course: Course, waits: Iterable[Wait] = ()) -> str:
     """Returns the timeline of a course as SVG."""
-    return Timeline(course).draw()
+    return Timeline(course, list(waits)).draw()
