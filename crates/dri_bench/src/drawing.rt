@@ -13,9 +13,9 @@ use std::alloc::Global;
 use std::marker::Brand;
 use std::sync::ledger::{Blank, Ledger};
 
-const WIDTH: u16 = 640;
+pub const WIDTH: u16 = 640;
 
-const HEIGHT: u16 = 480;
+pub const HEIGHT: u16 = 480;
 
 /// The sides of the window, in sixteenths of a pixel.
 const RIGHT: u16 = 16 * 280;
@@ -46,9 +46,9 @@ const DOWN: i32 = 80;
 const SIDE: u16 = 64;
 
 /// The bytes of the texture.
-const MEMORY: usize = 4096;
+pub const MEMORY: usize = 4096;
 
-const BACKGROUND: Rgb = Rgb {
+pub const BACKGROUND: Rgb = Rgb {
     r: 10,
     g: 20,
     b: 30,
@@ -94,7 +94,7 @@ impl Work {
     }
 
     /// The words of its registers: shading, depth, blending, texture mode, wrapping and the image.
-    fn words(self) -> [u32; 15] {
+    pub fn words(self) -> [u32; 15] {
         let (shade, depth_func, depth_write, blend, mode) = match self {
             Work::Smooth => (1, 7, 0, 0, 0),
             Work::Blended => (1, 7, 0, 1, 0),
@@ -121,7 +121,7 @@ impl Work {
     }
 
     /// Its triangles.
-    fn buffer(self) -> Buffer {
+    pub fn buffer(self) -> Buffer {
         match self {
             Work::Clear | Work::Swap | Work::Load => Buffer::new(),
             Work::Cells | Work::Move => grid(256, 256),
@@ -223,7 +223,7 @@ fn slivers() -> Buffer {
 }
 
 /// A screen without a window.
-fn scene(alloc: Global) -> Scene {
+pub fn scene(alloc: Global) -> Scene {
     Scene {
         width: u32::from(WIDTH),
         height: u32::from(HEIGHT),
@@ -238,7 +238,7 @@ fn scene(alloc: Global) -> Scene {
 }
 
 /// The bytes of the texture.
-fn texels(alloc: Global) -> Option<Vec<u8>> {
+pub fn texels(alloc: Global) -> Option<Vec<u8>> {
     let mut bytes = Vec::new(alloc);
     for y in 0..SIDE {
         for x in 0..SIDE {
@@ -248,7 +248,8 @@ fn texels(alloc: Global) -> Option<Vec<u8>> {
     Some(bytes)
 }
 
-fn rect(x2: u16, y2: u16) -> ClipRect {
+/// The rectangle of the screen from its upper left corner on.
+pub fn rect(x2: u16, y2: u16) -> ClipRect {
     ClipRect {
         x1: 0,
         y1: 0,

@@ -8,6 +8,7 @@ mod load;
 mod opened;
 mod pairs;
 mod regions;
+mod sixteen;
 mod tally;
 
 use crate::boards::Arrangement;
@@ -28,6 +29,7 @@ enum Part {
     Pairs(u32),
     Contend(u32),
     Drawing(Work, u32),
+    Sixteen(Work, u32),
     Regions(Operation, u32, u32, u32),
     Boards(Arrangement, u32, u32),
 }
@@ -51,9 +53,13 @@ fn arrangement_of(word: &str) -> Option<Arrangement> {
     }
 }
 
-/// The part of a word with counts behind colons: an operation with two, an arrangement with one.
+/// The part of a word with more behind colons: an operation with two counts, an arrangement with one, the card of sixteen bits with
+/// its work.
 fn part_with_counts(word: &str, times: u32) -> Option<Part> {
     let (name, counts) = word.split_once(':')?;
+    if name == "sixteen" {
+        return Some(Part::Sixteen(Work::of(counts)?, times));
+    }
     if let Some(arrangement) = arrangement_of(name) {
         return Some(Part::Boards(arrangement, counts.parse().ok()?, times));
     }
@@ -97,7 +103,7 @@ fn main(rt: HostRuntime) -> io::Result<ExitCode> {
     for words in words.as_slice().chunks(2) {
         let Some(part) = part_of(words) else {
             eprintln!(rt;
-                "usage: dri_bench [PART TIMES].., with PART pairs, contend, flat, smooth, blended, textured, cells, tiny, row, nothing, sliver, clear, swap, move, load, unite:N:N, subtract:N:N, intersect:N:N, overlap:N or apart:N"
+                "usage: dri_bench [PART TIMES].., with PART pairs, contend, flat, smooth, blended, textured, cells, tiny, row, nothing, sliver, clear, swap, move, load, sixteen:PART, unite:N:N, subtract:N:N, intersect:N:N, overlap:N or apart:N"
             )?;
             return Ok(ExitCode::from(USAGE));
         };
@@ -105,6 +111,7 @@ fn main(rt: HostRuntime) -> io::Result<ExitCode> {
             Part::Pairs(times) => pairs::run(&rt, rt.alloc(), times),
             Part::Contend(times) => contend::run(&rt, rt.alloc(), times),
             Part::Drawing(work, times) => drawing::run(rt.alloc(), work, times),
+            Part::Sixteen(work, times) => sixteen::run(rt.alloc(), work, times),
             Part::Regions(operation, first, second, times) => {
                 regions::run(rt.alloc(), operation, first, second, times)
             }
