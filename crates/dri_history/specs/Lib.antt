@@ -1,5 +1,4 @@
 pub mod Touches
 pub mod Histories
 pub mod Follows
-
--- pub mod Afters
+pub mod Examples

@@ -11,8 +11,10 @@ mod sampling;
 mod showing;
 mod touch;
 mod touching;
+mod worked;
 
 pub use dri_replay::ReplayFault;
 pub use history::pixel_history;
 pub use law::untouched;
 pub use touch::{Clip, Kind, Sample, Touch, Touches};
+pub use worked::left_and_reached;
