@@ -1,0 +1,5 @@
+pub mod Ends
+pub mod Runs
+pub mod Nodes
+pub mod Levels
+pub mod Gathering
