@@ -1,5 +1,5 @@
 -- What comes of what was read, and what that says of the bytes.
-use Rattle.std.proofs.Common.{◌≡◌, ℕ, ◌≤◌, ◌⊎◌, List, Option, Ok, Err, length, refl, ap, inl, inr}
+use Rattle.std.proofs.Common.{◌≡◌, ℕ, ◌⊎◌, List, Option, Ok, Err, refl, ap, inl, inr}
 use Rattle.dri_base.specs.Ranges.{InRange}
 use Rattle.dri_io.specs.Causes.{Rose}
 use Rattle.dri_run.specs.Gains.{GainsNothing, Sunk}

@@ -3,3 +3,6 @@ mod Asked
 -- The words that read a recording
 mod Screens
 mod Lines
+-- The word events
+mod Items
+mod Rounded

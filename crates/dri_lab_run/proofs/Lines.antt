@@ -1,12 +1,15 @@
 -- Lines of words that are put piece by piece.
-use Rattle.std.proofs.Common.{◌≡◌, ℕ, List, [], ◌∷◌, ◌++◌, map, refl, sym, ap, ◌∙◌, append_assoc}
-use Rattle.std.proofs.lemmas.List.{append-nil}
+use Rattle.std.proofs.Common.{◌≡◌, ◌<◌, ◌+◌, ℕ, List, [], ◌∷◌, ◌++◌, length, map, take, refl, sym, ap, ◌∙◌, append_assoc}
+use Rattle.std.specs.Fmt.{decimal}
+use Rattle.std.proofs.Math.ListN.{get_or}
+use Rattle.std.proofs.lemmas.List.{append-nil, map_push, take_more}
 use Rattle.std.specs.List.{flat_map}
 use Rattle.dri_scene.proofs.Joins.{adds_same, joined}
 use Rattle.dri_scene.specs.Texts.{Adds, spaced, spelled}
 use Rattle.dri_scene.specs.declared.words.Word.{Word}
+use Rattle.dri_scene.specs.declared.words.Word.TheVariants as words
 use Rattle.dri_words.specs.Lines.{words_bytes}
-use Rattle.dri_lab_run.specs.PlaceHistory.{behind_spaces}
+use Rattle.dri_lab_run.specs.Spaces.{behind_spaces}
 
 -- words, and those behind them
 spaces_append : (ws more : List (List ℕ)) → behind_spaces (ws ++ more) ≡ behind_spaces ws ++ behind_spaces more
@@ -38,3 +41,10 @@ put_more ws more first then = adds_same (joined first then) (sym (spaces_append 
 -- words were put, and then the newline
 pub put_end : {t u v : List ℕ} (ws : List (List ℕ)) → Adds t (behind_spaces ws) u → Adds u (10 ∷ []) v → Adds t (words_bytes ws) v
 put_end ws first then = adds_same (joined first then) (sym (spaces_ended ws))
+
+-- a word and numbers were put, and then one number more
+pub put_number : {t u v : List ℕ} (word : List ℕ) (numbers : List ℕ) (i d : ℕ) → i < length numbers → Adds t (behind_spaces (word ∷ map decimal (take i numbers))) u → Adds u (flat_map spaced (words.Number (get_or numbers i d) ∷ [])) v →
+    Adds t (behind_spaces (word ∷ map decimal (take (i + 1) numbers))) v
+put_number word numbers i d less first then =
+    adds_same (put_more (word ∷ map decimal (take i numbers)) (decimal (get_or numbers i d) ∷ []) first (put_values (words.Number (get_or numbers i d) ∷ []) then))
+    (ap (λ ns. behind_spaces (word ∷ ns)) (sym (ap (map decimal) (take_more numbers i d less) ∙ map_push decimal (take i numbers) (get_or numbers i d))))

@@ -15,7 +15,7 @@ code_of (lab.NoPlace width height) = 9
 
 -- the program's line, but for other words
 abbrev pub common_line : Status → List ℕ
-common_line answers.Usage = codes "dri: usage: after E | pixel X Y\n"
+common_line answers.Usage = codes "dri: usage: after E | pixel X Y | events\n"
 common_line status = program.line_of status
 
 -- the line that is written to the notes

@@ -6,7 +6,6 @@ use Rattle.dri_base.specs.Ranges.{InRange}
 use Rattle.dri_run.specs.Gains.{Gains, GainsNothing, Sunk}
 use Rattle.dri_run.specs.Outcome.{Ran, RanText}
 use Rattle.dri_run.specs.Readings.{HasNone, IsReadWithin, IsRefusalOf, IsTextOf, Kind}
-use Rattle.dri_run.specs.declared.status.Status.{Status}
 use Rattle.dri_run.specs.declared.status.Status.TheVariants as answers
 use Rattle.dri_run.specs.declared.writing.Output.{Output}
 use Rattle.dri_lab_run.specs.Notices.{line_of}

@@ -42,11 +42,6 @@ sample_words t =
 abbrev pub touch_words : Touch → List (List ℕ)
 touch_words t = codes "entry" ∷ decimal t.entry ∷ kind_word t.kind ∷ codes "client" ∷ decimal t.client ∷ (clip_words t.clip ++ sample_words t)
 
--- words, each behind a space
-abbrev pub behind_spaces : List (List ℕ) → List ℕ
-behind_spaces [] = []
-behind_spaces (word ∷ more) = 32 ∷ (word ++ behind_spaces more)
-
 -- the lines of touches
 abbrev pub touch_lines : List Touch → List ℕ
 touch_lines touches = flat_map (λ t. line_bytes (touch_words t)) touches

@@ -20,28 +20,44 @@ pub enum Look {
     Pixel { x: u32, y: u32 },
 }
 
+/// What the words ask for.
+#[derive(Clone, Copy)]
+pub enum Form {
+    /// A look at a recording.
+    Recorded(Look),
+    /// `events`: what each item of a scene's schedule, and of the rounds behind it, brings.
+    Events,
+}
+
 /// What the word `after` and a number behind it ask for.
-fn after_form(count: &str) -> Option<Look>
+fn after_form(count: &str) -> Option<Form>
     ensures { result ≡ after_form count.now }
 {
     let entries = number_in(0, MOST_ENTRIES, count)?;
-    Some(Look::After { entries })
+    Some(Form::Recorded(Look::After { entries }))
 }
 
 /// What the word `pixel` and two numbers behind it ask for.
-fn pixel_form(column: &str, row: &str) -> Option<Look>
+fn pixel_form(column: &str, row: &str) -> Option<Form>
     ensures { result ≡ pixel_form column.now row.now }
 {
     let x = number_in(0, LAST_PLACE, column)?;
     let y = number_in(0, LAST_PLACE, row)?;
-    Some(Look::Pixel { x, y })
+    Some(Form::Recorded(Look::Pixel { x, y }))
 }
 
 /// What the words ask for, where they are of a form.
-pub fn form_of(words: &[String]) -> Option<Look>
+pub fn form_of(words: &[String]) -> Option<Form>
     ensures { result ≡ form_of words.now }
 {
     match words {
+        [word] => {
+            if word.as_str() == "events" {
+                Some(Form::Events)
+            } else {
+                None
+            }
+        }
         [word, count] => {
             if word.as_str() == "after" {
                 after_form(count.as_str())

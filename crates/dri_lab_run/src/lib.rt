@@ -1,8 +1,11 @@
-//! The top call of the laboratory: from the words of the command line and what they read, a scene with a journal behind it, to
-//! what is seen in that run: the screen after some of its entries, and what touched a place of the screen.
+//! The top call of the laboratory: from the words of the command line and what they read, to what is seen in a run. Of a scene
+//! with a journal behind it that is the screen after some entries, or what touched a place of the screen; of a scene alone it is
+//! what each item of its schedule brings.
 #![tactic(auto)]
 
 mod after;
+mod event_line;
+mod events;
 mod form;
 mod history;
 mod looking;

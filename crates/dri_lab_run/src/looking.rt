@@ -6,12 +6,15 @@ ghost use Rattle.dri_base.specs.Ranges.{InRange};
 ghost use Rattle.dri_io.specs.Causes.{Rose};
 ghost use Rattle.dri_run.specs.Outcome.{AreTaken};
 ghost use Rattle.dri_lab_run.specs.Answering.{GivesLook, RefusesLook};
+ghost use Rattle.dri_lab_run.specs.EventLines.{GivesEvents, RefusesNone};
 ghost use Rattle.dri_lab_run.specs.Outcome.{IsAnswer, Makes, Runs, Says};
 
 use crate::LabStatus;
 use crate::after::screen_after;
+use crate::events::scene_events;
 use crate::form::Look;
 use crate::history::place_history;
+use dri_base::Scene;
 use dri_io::{Sink, Source};
 use dri_run::{Output, Recording, Status, Text, read, write_output};
 use std::alloc::Global;
@@ -47,6 +50,21 @@ impl Asking for Look {
             Look::After { entries } => screen_after(alloc, entries, &input),
             Look::Pixel { x, y } => place_history(alloc, x, y, &input),
         }
+    }
+}
+
+/// What each item of a scene brings.
+pub struct SceneEvents;
+
+impl Asking for SceneEvents {
+    type Input = Scene;
+
+    ghost gives = { λ _ scene image text. GivesEvents scene image text };
+
+    ghost refuses = { λ _ scene status. RefusesNone scene status };
+
+    fn output_of(&self, alloc: Global, input: Scene) -> Result<Output, LabStatus> {
+        scene_events(alloc, input)
     }
 }
 

@@ -11,10 +11,10 @@ use dri_run::{Notice, Status, push_number};
 
 /// The line of the words.
 fn usage() -> Notice
-    ensures { result.bytes ≡ codes "dri: usage: after E | pixel X Y\n" }
+    ensures { result.bytes ≡ codes "dri: usage: after E | pixel X Y | events\n" }
 {
     let mut notice = Notice::new();
-    notice.push_str("dri: usage: after E | pixel X Y\n");
+    notice.push_str("dri: usage: after E | pixel X Y | events\n");
     notice
 }
 

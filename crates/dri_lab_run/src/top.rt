@@ -8,11 +8,11 @@ ghost use Rattle.dri_lab_run.specs.Answering.{IsAnswerTo, SaysTo, TakesAllOf};
 ghost use Rattle.dri_lab_run.specs.Forms.{form_of};
 ghost use Rattle.dri_lab_run.specs.Notices.{line_of};
 ghost use Rattle.dri_lab_run.specs.Outcome.{Answers};
-ghost use Rattle.dri_lab_run.specs.declared.form.Look.{Look};
+ghost use Rattle.dri_lab_run.specs.declared.form.Form.{Form};
 
 use crate::LabStatus;
-use crate::form::form_of;
-use crate::looking::obey;
+use crate::form::{Form, form_of};
+use crate::looking::{SceneEvents, obey};
 use crate::notice::tell;
 use dri_io::{Sink, Source};
 use dri_run::Status;
@@ -35,17 +35,18 @@ fn answer<S: Source, P: Sink, N: Sink>(
     ensures later { N.faults notes.old ≤ N.faults notes.new }
     ensures unwritten { result ≢ LabStatus.Common Status.Done → result ≢ LabStatus.Common Status.WriteFault → (picture.new ≡ picture.old) × (notes.new ≡ notes.old) }
     ensures read_fault { result ≡ LabStatus.Common Status.ReadFault → Rose (S.faults input.old) (S.faults input.new) }
-    ensures decided { (look : Look) (bytes : List ℕ) → form_of words.now ≡ Some look → S.left input.old ≡ Some bytes
+    ensures decided { (form : Form) (bytes : List ℕ) → form_of words.now ≡ Some form → S.left input.old ≡ Some bytes
         → (Rose (S.faults input.old) (S.faults input.new) → ⊥) → (Rose (P.faults picture.old) (P.faults picture.new) → ⊥)
         → (Rose (N.faults notes.old) (N.faults notes.new) → ⊥)
-        → IsAnswerTo look result bytes ⊎ (result ≡ LabStatus.Common Status.OutOfMemory) }
-    ensures taken { (look : Look) (bytes : List ℕ) → form_of words.now ≡ Some look → S.left input.old ≡ Some bytes
+        → IsAnswerTo form result bytes ⊎ (result ≡ LabStatus.Common Status.OutOfMemory) }
+    ensures taken { (form : Form) (bytes : List ℕ) → form_of words.now ≡ Some form → S.left input.old ≡ Some bytes
         → (S.gives_all input.old ⊎ (Rose (S.faults input.old) (S.faults input.new) → ⊥))
-        → TakesAllOf look bytes (P.takes picture.old) (N.takes notes.old)
-        → IsAnswerTo look result bytes ⊎ (result ≡ LabStatus.Common Status.OutOfMemory) }
+        → TakesAllOf form bytes (P.takes picture.old) (N.takes notes.old)
+        → IsAnswerTo form result bytes ⊎ (result ≡ LabStatus.Common Status.OutOfMemory) }
 {
     match form_of(words) {
-        Some(look) => obey(alloc, &look, input, picture, notes),
+        Some(Form::Recorded(look)) => obey(alloc, &look, input, picture, notes),
+        Some(Form::Events) => obey(alloc, &SceneEvents, input, picture, notes),
         None => LabStatus::Common(Status::Usage),
     }
 }
@@ -53,7 +54,8 @@ fn answer<S: Source, P: Sink, N: Sink>(
 /// Does what the words of the command line say. `after E` reads a scene from `input` and behind it a journal, replays the
 /// journal's first E entries, and writes the screen after them to `picture` in the P6 form, and nothing to `notes`. `pixel X Y`
 /// reads the same, replays the whole journal, and writes a line to `picture` for each entry that changed the place in column X
-/// and row Y or may have changed it. For every status but `Done` one line is written to `notes` last. It waits for nobody.
+/// and row Y or may have changed it. `events` reads a scene, plays it by its schedule and then rounds, and writes a line to
+/// `picture` for each item, with its event and the lock word and the queue after it. For every status but `Done` one line is written to `notes` last. It waits for nobody.
 pub fn drive<S: Source, P: Sink, N: Sink>(
     alloc: Global,
     words: &[String],
@@ -68,7 +70,8 @@ pub fn drive<S: Source, P: Sink, N: Sink>(
     // What was given, and what picture and notes gained. Where the answer is `Done`, the bytes given are the text of a scene and
     // then of a journal. For `after` the journal has so many entries, and these are a hold-run of the scene: the picture gained
     // what the screen shows after them. For `pixel` the place lies on the screen and the journal is a hold-run of the scene: the
-    // picture gained the lines of the place's touches. `NoEntry` comes where the journal has too few entries, `NoPlace` where the
+    // picture gained the lines of the place's touches. For `events` the bytes are the text of one scene, and the picture gained the
+    // lines of its items and of the rounds behind them. `NoEntry` comes where the journal has too few entries, `NoPlace` where the
     // place isn't on the screen, and `NotARun` names the first entry that isn't legal of those that are replayed.
     ensures answers { (given : List ℕ) × Consumes (S.left input.old) (S.left input.new) given
         × Answers (SaysTo (form_of words.now)) result given (S.left input.new)
@@ -80,16 +83,16 @@ pub fn drive<S: Source, P: Sink, N: Sink>(
     ensures read_fault { result ≡ LabStatus.Common Status.ReadFault → Rose (S.faults input.old) (S.faults input.new) }
 
     // Where no count rose, the bytes decide the answer, want of memory aside.
-    ensures decided { (look : Look) (bytes : List ℕ) → form_of words.now ≡ Some look → S.left input.old ≡ Some bytes
+    ensures decided { (form : Form) (bytes : List ℕ) → form_of words.now ≡ Some form → S.left input.old ≡ Some bytes
         → (Rose (S.faults input.old) (S.faults input.new) → ⊥) → (Rose (P.faults picture.old) (P.faults picture.new) → ⊥)
         → (Rose (N.faults notes.old) (N.faults notes.new) → ⊥)
-        → IsAnswerTo look result bytes ⊎ (result ≡ LabStatus.Common Status.OutOfMemory) }
+        → IsAnswerTo form result bytes ⊎ (result ≡ LabStatus.Common Status.OutOfMemory) }
 
     // The same holds where the sinks take, without a fault, whatever a replay of what was read gives.
-    ensures taken { (look : Look) (bytes : List ℕ) → form_of words.now ≡ Some look → S.left input.old ≡ Some bytes
+    ensures taken { (form : Form) (bytes : List ℕ) → form_of words.now ≡ Some form → S.left input.old ≡ Some bytes
         → (S.gives_all input.old ⊎ (Rose (S.faults input.old) (S.faults input.new) → ⊥))
-        → TakesAllOf look bytes (P.takes picture.old) (N.takes notes.old)
-        → IsAnswerTo look result bytes ⊎ (result ≡ LabStatus.Common Status.OutOfMemory) }
+        → TakesAllOf form bytes (P.takes picture.old) (N.takes notes.old)
+        → IsAnswerTo form result bytes ⊎ (result ≡ LabStatus.Common Status.OutOfMemory) }
 
     // Where the notes take the status's line without a fault, they gain it whole and nothing else.
     ensures told { (n : ℕ) → length (line_of result) ≤ n → N.takes notes.old n

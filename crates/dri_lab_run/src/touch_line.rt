@@ -2,7 +2,8 @@
 
 ghost use Rattle.std.specs.Prelude.{◌≡◌, ◌++◌, ◌∷◌, [], IfOk, OnOk, codes, decimal, map};
 ghost use Rattle.std.specs.List.{flat_map};
-ghost use Rattle.dri_lab_run.specs.PlaceHistory.{behind_spaces, clip_words, kind_word, sample_words, touch_lines, touch_words};
+ghost use Rattle.dri_lab_run.specs.PlaceHistory.{clip_words, kind_word, sample_words, touch_lines, touch_words};
+ghost use Rattle.dri_lab_run.specs.Spaces.{behind_spaces};
 ghost use Rattle.dri_scene.specs.Texts.{Adds, spelled};
 ghost use Rattle.dri_words.specs.Lines.{line_bytes};
 

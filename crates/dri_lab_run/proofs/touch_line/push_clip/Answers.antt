@@ -6,7 +6,8 @@ use Rattle.dri_scene.specs.declared.words.Word.TheVariants as words
 use Rattle.dri_scene.specs.Texts.{spelled}
 use Rattle.dri_scene.proofs.Joins.{adds_same, on_ok}
 use Rattle.dri_lab_run.proofs.Lines.{put_more}
-use Rattle.dri_lab_run.specs.PlaceHistory.{behind_spaces, clip_words}
+use Rattle.dri_lab_run.specs.PlaceHistory.{clip_words}
+use Rattle.dri_lab_run.specs.Spaces.{behind_spaces}
 use Rattle.dri_lab_run.proofs.touch_line.push_clip.Goals as goal
 
 pub returns : goal.returns
