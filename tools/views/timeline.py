@@ -100,7 +100,10 @@ class Timeline:
         return named | framed | waiting | {it.number for it in self.course.scene.clients.values() if it.window in stamped}
 
     def went(self, wait: Wait) -> int:
-        """Returns the entry up to which an actor waits: the one behind the last, where it never went."""
+        """Returns the entry up to which an actor waits: the next one where it was stopped, the one behind the last where it never
+        went."""
+        if wait.stopped is not None:
+            return wait.stopped + 1
         return wait.went or len(self.course.entries) + 1
 
     def x(self, strip: Strip, number: int) -> float:
@@ -162,6 +165,7 @@ class Timeline:
             return
         colour = colour_of(wait.actor)
         until = f"up to entry {wait.went}" if wait.went else "and never went"
+        until = until if wait.stopped is None else f"and was stopped behind entry {wait.stopped}"
         marked = "" if wait.marked is None else f"; marked the word after entry {wait.marked}"
         self.svg.begin(f"{name_of(wait.actor)} waited from behind entry {wait.joined} {until}{marked}")
         self.svg.rect(left, level - 2, right - left, 4, colour, opacity=0.45)

@@ -3,7 +3,7 @@ made, and the lock word and the queue after it."""
 
 from __future__ import annotations
 
-from dataclasses import dataclass
+from dataclasses import dataclass, replace
 from typing import Optional
 
 from .journal import Entry
@@ -21,13 +21,14 @@ class NotItsEvents(Exception):
 
 @dataclass(frozen=True)
 class Wait:
-    """An actor's time in the queue: how many entries were made when it joined, the entry by which it went, and how many entries
-    were made when it marked the word as the first that waits. None where it never did."""
+    """An actor's time in the queue: how many entries were made when it joined, the entry by which it went, how many entries were
+    made when it marked the word as the first that waits, and when a kill stopped it. None where it never did."""
 
     actor: int
     joined: int
-    went: Optional[int]
-    marked: Optional[int]
+    went: Optional[int] = None
+    marked: Optional[int] = None
+    stopped: Optional[int] = None
 
 
 @dataclass(frozen=True)
@@ -70,17 +71,15 @@ class Waiting:
             there = str(self.entries[self.made - 1]) if self.made <= len(self.entries) else "not there"
             if entry != there:
                 raise NotItsEvents(number, f"it has {entry}, and entry {self.made} of the journal is {there}")
+        # Who is stopped goes by no entry.
+        way = {"stopped" if entry is None else "went": self.made}
         for actor in [it for it in self.begun if it not in step.queue]:
-            self.waits.append(self.ended(actor, self.made))
+            self.waits.append(replace(self.begun.pop(actor), **way))
         for actor in step.queue:
-            self.begun.setdefault(actor, Wait(actor, self.made, None, None))
+            self.begun.setdefault(actor, Wait(actor, self.made))
         if step.event[0] == "mark":
             actor = int(step.event[1])
-            self.begun[actor] = Wait(actor, self.begun[actor].joined, None, self.made)
-
-    def ended(self, actor: int, went: Optional[int]) -> Wait:
-        begun = self.begun.pop(actor)
-        return Wait(actor, begun.joined, went, begun.marked)
+            self.begun[actor] = replace(self.begun[actor], marked=self.made)
 
 
 def waits_of(text: str, entries: list[Entry]) -> list[Wait]:
@@ -90,4 +89,4 @@ def waits_of(text: str, entries: list[Entry]) -> list[Wait]:
         waiting.take(step_of(line, number), number)
     if waiting.made != len(entries):
         raise NotItsEvents(len(text.splitlines()), f"it is the last, and entry {waiting.made + 1} of the journal is in none")
-    return waiting.waits + [waiting.ended(actor, None) for actor in list(waiting.begun)]
+    return waiting.waits + list(waiting.begun.values())
