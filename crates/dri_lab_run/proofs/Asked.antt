@@ -56,6 +56,8 @@ says_ran kind Gives Refuses (lab.NoEntry entries) input given left picture notes
     ((text.read, record { input = input; spelled = text.spelled; in_range = text.in_range; refused = bad.0 }), bad.1, bad.2)
 says_ran kind Gives Refuses (lab.NoPlace width height) input given left picture notes text bad =
     ((text.read, record { input = input; spelled = text.spelled; in_range = text.in_range; refused = bad.0 }), bad.1, bad.2)
+says_ran kind Gives Refuses lab.TooMany input given left picture notes text bad =
+    ((text.read, record { input = input; spelled = text.spelled; in_range = text.in_range; refused = bad.0 }), bad.1, bad.2)
 
 -- where no sink failed, what comes of what was read is the answer
 pub ran_decides : {A : Type 0} (kind : Kind A) (Gives : A → List ℕ → List ℕ → Type 0) (Refuses : A → LabStatus → Type 0) (status : LabStatus) (input : A) (bytes : List ℕ) (picture notes : Sunk) → InRange (kind.scene input) → IsDecided kind (Ok input) bytes →
@@ -74,6 +76,8 @@ ran_decides kind Gives Refuses (lab.NoEntry entries) input bytes picture notes g
     inl (decided.0, record { input = input; spelled = decided.1; in_range = good; refused = bad.0 })
 ran_decides kind Gives Refuses (lab.NoPlace width height) input bytes picture notes good decided bad whole =
     inl (decided.0, record { input = input; spelled = decided.1; in_range = good; refused = bad.0 })
+ran_decides kind Gives Refuses lab.TooMany input bytes picture notes good decided bad whole =
+    inl (decided.0, record { input = input; spelled = decided.1; in_range = good; refused = bad.0 })
 
 -- and where no count rose, none did
 pub none_failed : {A : Type 0} (Gives : A → List ℕ → List ℕ → Type 0) (Refuses : A → LabStatus → Type 0) (status : LabStatus) (input : A) (picture notes : Sunk) → Runs Gives Refuses status input picture notes → (Rose picture.before picture.now → ⊥) → (Rose notes.before notes.now → ⊥) →
@@ -91,3 +95,4 @@ none_failed Gives Refuses (lab.Common answers.TooLong) input picture notes wrong
 none_failed Gives Refuses (lab.Common answers.ReadFault) input picture notes wrong calm quiet is = wrong
 none_failed Gives Refuses (lab.NoEntry entries) input picture notes ran calm quiet is = absurd (cc)
 none_failed Gives Refuses (lab.NoPlace width height) input picture notes ran calm quiet is = absurd (cc)
+none_failed Gives Refuses lab.TooMany input picture notes ran calm quiet is = absurd (cc)

@@ -6,3 +6,5 @@ mod Lines
 -- The word events
 mod Items
 mod Rounded
+-- The word all
+mod Found

@@ -9,12 +9,13 @@ use Rattle.dri_run.specs.Readings.{scenes}
 use Rattle.dri_run.specs.Recordings.{recording_of, recordings}
 use Rattle.dri_run.specs.declared.recording.Recording.{Recording}
 use Rattle.dri_run.specs.declared.status.Status.TheVariants as answers
+use Rattle.dri_lab_run.specs.AllEnds.{GivesAll, RefusesAll}
 use Rattle.dri_lab_run.specs.EventLines.{GivesEvents, RefusesNone}
 use Rattle.dri_lab_run.specs.Outcome.{IsAnswer, Says}
 use Rattle.dri_lab_run.specs.PlaceHistory.{GivesHistory, RefusesHistory}
 use Rattle.dri_lab_run.specs.ScreenAfter.{GivesAfter, RefusesAfter}
 use Rattle.dri_lab_run.specs.declared.form.Form.{Form}
-use Rattle.dri_lab_run.specs.declared.form.Form.TheVariants.{Recorded, Events}
+use Rattle.dri_lab_run.specs.declared.form.Form.TheVariants.{Recorded, Events, All}
 use Rattle.dri_lab_run.specs.declared.form.Look.{Look}
 use Rattle.dri_lab_run.specs.declared.form.Look.TheVariants.{After, Pixel}
 use Rattle.dri_lab_run.specs.declared.status.LabStatus.{LabStatus}
@@ -34,6 +35,7 @@ RefusesLook (Pixel x y) recording status = RefusesHistory x y recording status
 abbrev pub SaysTo : Option Form → LabStatus → List ℕ → Option (List ℕ) → Sunk → Sunk → Type 0
 SaysTo (Some (Recorded look)) status given left picture notes = Says recordings (GivesLook look) (RefusesLook look) status given left picture notes
 SaysTo (Some Events) status given left picture notes = Says scenes GivesEvents RefusesNone status given left picture notes
+SaysTo (Some (All n)) status given left picture notes = Says scenes (GivesAll n) (RefusesAll n) status given left picture notes
 SaysTo None (lab.Common answers.Usage) given left picture notes = GainsNothing picture × GainsNothing notes
 SaysTo None _ given left picture notes = ⊥
 
@@ -41,8 +43,10 @@ SaysTo None _ given left picture notes = ⊥
 abbrev pub IsAnswerTo : Form → LabStatus → List ℕ → Type 0
 IsAnswerTo (Recorded look) status bytes = IsAnswer recordings (GivesLook look) (RefusesLook look) status bytes
 IsAnswerTo Events status bytes = IsAnswer scenes GivesEvents RefusesNone status bytes
+IsAnswerTo (All n) status bytes = IsAnswer scenes (GivesAll n) (RefusesAll n) status bytes
 
 -- two sinks take, without a fault, whatever is written for these bytes
 abbrev pub TakesAllOf : Form → List ℕ → (ℕ → Type 0) → (ℕ → Type 0) → Type 0
 TakesAllOf (Recorded look) bytes picture notes = (recording : Recording) → recording_of bytes ≡ Ok recording → AreTaken (GivesLook look) picture notes recording
 TakesAllOf Events bytes picture notes = (scene : Scene) → scene_of bytes ≡ Ok scene → AreTaken GivesEvents picture notes scene
+TakesAllOf (All n) bytes picture notes = (scene : Scene) → scene_of bytes ≡ Ok scene → AreTaken (GivesAll n) picture notes scene

@@ -5,4 +5,5 @@ pub mod ScreenAfter
 pub mod Spaces
 pub mod PlaceHistory
 pub mod EventLines
+pub mod AllEnds
 pub mod Answering

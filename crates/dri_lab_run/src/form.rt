@@ -1,12 +1,12 @@
 //! The words of the command line.
 
 ghost use Rattle.std.specs.Prelude.{◌≡◌};
-ghost use Rattle.dri_lab_run.specs.Forms.{after_form, form_of, pixel_form};
+ghost use Rattle.dri_lab_run.specs.Forms.{after_form, all_form, counted_form, form_of, pixel_form};
 
 use dri_run::number_in;
 
-/// The most entries that a word can ask for.
-const MOST_ENTRIES: u32 = u32::MAX;
+/// The most entries or events that a word can ask for.
+const MOST: u32 = u32::MAX;
 
 /// The greatest column and row of a screen.
 const LAST_PLACE: u32 = 1_023;
@@ -27,14 +27,37 @@ pub enum Form {
     Recorded(Look),
     /// `events`: what each item of a scene's schedule, and of the rounds behind it, brings.
     Events,
+    /// `all N`: each picture and each journal that a scene's runs of at most N events can end with.
+    All { events: u32 },
 }
 
 /// What the word `after` and a number behind it ask for.
 fn after_form(count: &str) -> Option<Form>
     ensures { result ≡ after_form count.now }
 {
-    let entries = number_in(0, MOST_ENTRIES, count)?;
+    let entries = number_in(0, MOST, count)?;
     Some(Form::Recorded(Look::After { entries }))
+}
+
+/// What the word `all` and a number behind it ask for.
+fn all_form(count: &str) -> Option<Form>
+    ensures { result ≡ all_form count.now }
+{
+    let events = number_in(0, MOST, count)?;
+    Some(Form::All { events })
+}
+
+/// What a word and a number behind it ask for.
+fn counted_form(word: &str, count: &str) -> Option<Form>
+    ensures { result ≡ counted_form word.now count.now }
+{
+    if word == "after" {
+        after_form(count)
+    } else if word == "all" {
+        all_form(count)
+    } else {
+        None
+    }
 }
 
 /// What the word `pixel` and two numbers behind it ask for.
@@ -58,13 +81,7 @@ pub fn form_of(words: &[String]) -> Option<Form>
                 None
             }
         }
-        [word, count] => {
-            if word.as_str() == "after" {
-                after_form(count.as_str())
-            } else {
-                None
-            }
-        }
+        [word, count] => counted_form(word.as_str(), count.as_str()),
         [word, column, row] => {
             if word.as_str() == "pixel" {
                 pixel_form(column.as_str(), row.as_str())

@@ -5,12 +5,14 @@ ghost use Rattle.std.specs.Io.KnownBytes.{Consumes};
 ghost use Rattle.dri_base.specs.Ranges.{InRange};
 ghost use Rattle.dri_io.specs.Causes.{Rose};
 ghost use Rattle.dri_run.specs.Outcome.{AreTaken};
+ghost use Rattle.dri_lab_run.specs.AllEnds.{GivesAll, RefusesAll};
 ghost use Rattle.dri_lab_run.specs.Answering.{GivesLook, RefusesLook};
 ghost use Rattle.dri_lab_run.specs.EventLines.{GivesEvents, RefusesNone};
 ghost use Rattle.dri_lab_run.specs.Outcome.{IsAnswer, Makes, Runs, Says};
 
 use crate::LabStatus;
 use crate::after::screen_after;
+use crate::all::all_of;
 use crate::events::scene_events;
 use crate::form::Look;
 use crate::history::place_history;
@@ -54,6 +56,7 @@ impl Asking for Look {
 }
 
 /// What each item of a scene brings.
+#[derive(Clone, Copy)]
 pub struct SceneEvents;
 
 impl Asking for SceneEvents {
@@ -65,6 +68,24 @@ impl Asking for SceneEvents {
 
     fn output_of(&self, alloc: Global, input: Scene) -> Result<Output, LabStatus> {
         scene_events(alloc, input)
+    }
+}
+
+/// All that a scene's runs of at most so many events can end with.
+#[derive(Clone, Copy)]
+pub struct AllEnds {
+    pub events: u32,
+}
+
+impl Asking for AllEnds {
+    type Input = Scene;
+
+    ghost gives = { λ all scene image text. GivesAll all.events scene image text };
+
+    ghost refuses = { λ all scene status. RefusesAll all.events scene status };
+
+    fn output_of(&self, alloc: Global, input: Scene) -> Result<Output, LabStatus> {
+        all_of(alloc, self.events, input)
     }
 }
 

@@ -11,10 +11,10 @@ use dri_run::{Notice, Status, push_number};
 
 /// The line of the words.
 fn usage() -> Notice
-    ensures { result.bytes ≡ codes "dri: usage: after E | pixel X Y | events\n" }
+    ensures { result.bytes ≡ codes "dri: usage: after E | pixel X Y | events | all N\n" }
 {
     let mut notice = Notice::new();
-    notice.push_str("dri: usage: after E | pixel X Y | events\n");
+    notice.push_str("dri: usage: after E | pixel X Y | events | all N\n");
     notice
 }
 
@@ -58,6 +58,15 @@ fn no_place(width: u32, height: u32) -> Notice
     notice
 }
 
+/// The line of a scene with too many runs.
+fn too_many() -> Notice
+    ensures { result.bytes ≡ codes "dri: too many runs\n" }
+{
+    let mut notice = Notice::new();
+    notice.push_str("dri: too many runs\n");
+    notice
+}
+
 /// The line of a status: empty for `Done`.
 pub fn line_of(status: LabStatus) -> Notice
     ensures { result.bytes ≡ line_of status }
@@ -66,6 +75,7 @@ pub fn line_of(status: LabStatus) -> Notice
         LabStatus::Common(status) => common_line(status),
         LabStatus::NoEntry { entries } => no_entry(entries),
         LabStatus::NoPlace { width, height } => no_place(width, height),
+        LabStatus::TooMany => too_many(),
     }
 }
 

@@ -13,6 +13,9 @@ const NO_ENTRY: u8 = 8;
 /// The number for a place outside the screen.
 const NO_PLACE: u8 = 9;
 
+/// The number for a scene with too many runs.
+const TOO_MANY: u8 = 10;
+
 /// How the laboratory's top call ended.
 #[derive(Clone, Copy, Debug, PartialEq, Eq)]
 pub enum LabStatus {
@@ -22,10 +25,12 @@ pub enum LabStatus {
     NoEntry { entries: u32 },
     /// The place that the words name isn't on the screen, which has these sides.
     NoPlace { width: u32, height: u32 },
+    /// More runs of one number of events would have to be kept than the limit lets.
+    TooMany,
 }
 
 impl LabStatus {
-    /// The number that the program ends with: that of the program's status, 0 to 7, or 8 or 9 in the order of the variants.
+    /// The number that the program ends with: that of the program's status, 0 to 7, or 8 to 10 in the order of the variants.
     pub fn code(&self) -> u8
         ensures { result ≡ code_of self.now }
     {
@@ -33,6 +38,7 @@ impl LabStatus {
             LabStatus::Common(status) => status.code(),
             LabStatus::NoEntry { .. } => NO_ENTRY,
             LabStatus::NoPlace { .. } => NO_PLACE,
+            LabStatus::TooMany => TOO_MANY,
         }
     }
 }

@@ -12,7 +12,7 @@ ghost use Rattle.dri_lab_run.specs.declared.form.Form.{Form};
 
 use crate::LabStatus;
 use crate::form::{Form, form_of};
-use crate::looking::{SceneEvents, obey};
+use crate::looking::{AllEnds, SceneEvents, obey};
 use crate::notice::tell;
 use dri_io::{Sink, Source};
 use dri_run::Status;
@@ -47,6 +47,7 @@ fn answer<S: Source, P: Sink, N: Sink>(
     match form_of(words) {
         Some(Form::Recorded(look)) => obey(alloc, &look, input, picture, notes),
         Some(Form::Events) => obey(alloc, &SceneEvents, input, picture, notes),
+        Some(Form::All { events }) => obey(alloc, &AllEnds { events }, input, picture, notes),
         None => LabStatus::Common(Status::Usage),
     }
 }
@@ -55,7 +56,8 @@ fn answer<S: Source, P: Sink, N: Sink>(
 /// journal's first E entries, and writes the screen after them to `picture` in the P6 form, and nothing to `notes`. `pixel X Y`
 /// reads the same, replays the whole journal, and writes a line to `picture` for each entry that changed the place in column X
 /// and row Y or may have changed it. `events` reads a scene, plays it by its schedule and then rounds, and writes a line to
-/// `picture` for each item, with its event and the lock word and the queue after it. For every status but `Done` one line is written to `notes` last. It waits for nobody.
+/// `picture` for each item, with its event and the lock word and the queue after it. `all N` reads a scene, and writes each
+/// picture that its runs of at most N events can end with to `picture`, and each journal to `notes`. For every status but `Done` one line is written to `notes` last. It waits for nobody.
 pub fn drive<S: Source, P: Sink, N: Sink>(
     alloc: Global,
     words: &[String],
@@ -67,12 +69,15 @@ pub fn drive<S: Source, P: Sink, N: Sink>(
     ensures usage { (result ≡ LabStatus.Common Status.Usage) ↔ (form_of words.now ≡ None) }
     ensures unread { form_of words.now ≡ None → input.new ≡ input.old }
 
-    // What was given, and what picture and notes gained. Where the answer is `Done`, the bytes given are the text of a scene and
-    // then of a journal. For `after` the journal has so many entries, and these are a hold-run of the scene: the picture gained
-    // what the screen shows after them. For `pixel` the place lies on the screen and the journal is a hold-run of the scene: the
-    // picture gained the lines of the place's touches. For `events` the bytes are the text of one scene, and the picture gained the
-    // lines of its items and of the rounds behind them. `NoEntry` comes where the journal has too few entries, `NoPlace` where the
-    // place isn't on the screen, and `NotARun` names the first entry that isn't legal of those that are replayed.
+    // What was given, and what picture and notes gained. Where the answer is `Done`, the bytes given are the text of a scene
+    // and then of a journal. For `after` the journal has so many entries, and these are a hold-run of the scene: the picture
+    // gained what the screen shows after them. For `pixel` the place lies on the screen and the journal is a hold-run of the
+    // scene: the picture gained the lines of the place's touches. For `events` the bytes are the text of one scene, and the
+    // picture gained the lines of its items and of the rounds behind them. For `all` they are too, and picture and notes
+    // gained all pictures and journals that its complete runs of at most so many events end with, and whether some run was
+    // cut. `NoEntry` comes where the journal has too few entries, `NoPlace` where the place isn't on the screen, `TooMany`
+    // only where a scene has more runs than are kept, and `NotARun` names the first entry that isn't legal of those that are
+    // replayed.
     ensures answers { (given : List ℕ) × Consumes (S.left input.old) (S.left input.new) given
         × Answers (SaysTo (form_of words.now)) result given (S.left input.new)
         (record { held = P.held picture.old; holds = P.held picture.new; before = P.faults picture.old; now = P.faults picture.new })

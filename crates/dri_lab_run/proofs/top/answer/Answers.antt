@@ -4,7 +4,7 @@ use Rattle.std.proofs.lemmas.Option.{same_Some}
 use Rattle.dri_run.specs.declared.status.Status.TheVariants as answers
 use Rattle.dri_lab_run.specs.Answering.{IsAnswerTo, TakesAllOf}
 use Rattle.dri_lab_run.specs.declared.form.Form.{Form}
-use Rattle.dri_lab_run.specs.declared.form.Form.TheVariants.{Recorded, Events}
+use Rattle.dri_lab_run.specs.declared.form.Form.TheVariants.{Recorded, Events, All}
 use Rattle.dri_lab_run.specs.declared.status.LabStatus.TheVariants as lab
 use Rattle.dri_lab_run.proofs.top.answer.Goals as goal
 
@@ -20,5 +20,13 @@ returns-in-Some-Events-clause-taken g c = λ form bytes asked left sure taken.
     let found = c.in-Some-Events in
     let obeyed = c.obey-in-Some-Events in
     let same : Events ≡ form = sym found.field-0-is ∙ same_Some found.field-0 form (sym found.is ∙ c.form_of.ensures ∙ asked) in
+    let takes = subst (λ (f : Form). TakesAllOf f bytes (g.P.Sink.takes c.args.picture.now) (g.N.Sink.takes c.args.notes.now)) (sym same) taken in
+    subst (λ (f : Form). IsAnswerTo f obeyed.result bytes ⊎ (obeyed.result ≡ lab.Common answers.OutOfMemory)) same (obeyed.ensures.taken bytes left sure takes)
+
+pub returns-in-Some-All-clause-taken : goal.returns-in-Some-All-clause-taken
+returns-in-Some-All-clause-taken g c = λ form bytes asked left sure taken.
+    let found = c.in-Some-All in
+    let obeyed = c.obey-in-Some-All in
+    let same : All found.events ≡ form = sym found.field-0-is ∙ same_Some found.field-0 form (sym found.is ∙ c.form_of.ensures ∙ asked) in
     let takes = subst (λ (f : Form). TakesAllOf f bytes (g.P.Sink.takes c.args.picture.now) (g.N.Sink.takes c.args.notes.now)) (sym same) taken in
     subst (λ (f : Form). IsAnswerTo f obeyed.result bytes ⊎ (obeyed.result ≡ lab.Common answers.OutOfMemory)) same (obeyed.ensures.taken bytes left sure takes)
